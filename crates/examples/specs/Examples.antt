@@ -1,4 +1,4 @@
--- Worked examples of places, owners, arcs and settings, as one table. Assumes nothing.
+-- Worked examples of places, owners, arcs, settings and messages, as one table. Assumes nothing.
 use mathlib.Core.Path.{_≡_}
 use mathlib.Core.Bool.{Bool, true, false}
 use mathlib.Core.List.{List, [], _∷_}
@@ -8,6 +8,9 @@ use Rattle.std.specs.declared.option.Option.the-variants.{Some, None}
 use Rattle.faults.specs.declared.Fault.{Fault}
 use Rattle.faults.specs.declared.Fault.the-variants.{Size, Copies}
 use Rattle.faults.specs.Checks.{firstFault}
+use Rattle.messages.specs.declared.Message.{Message}
+use Rattle.messages.specs.declared.Message.the-variants.{AddItem}
+use Rattle.layouts.specs.Layout.{encoded}
 use Rattle.circle.specs.Circle.{inArc, place}
 use Rattle.circle.specs.Owners.{owner}
 use Rattle.arithmetic.specs.Settled.{settingsChecks}
@@ -24,6 +27,8 @@ pub data Example : Type 0 where
   arc : ℕ → ℕ → ℕ → Bool → Example
   -- a size, the copies, and what refuses them
   settings : ℕ → ℕ → Option Fault → Example
+  -- a message and its bytes
+  bytes : Message → List ℕ → Example
 
 -- on a ring of 16 with 4 copies, where an example gives no size
 abbrev pub Holds : Example → Type 0
@@ -32,6 +37,7 @@ Holds (place-is k r i) = place 16 4 k r ≡ i
 Holds (owner-is members i p) = owner 16 members i ≡ Some p
 Holds (arc s e i has) = inArc 16 s e i ≡ has
 Holds (settings n f refused) = firstFault (settingsChecks n f) ≡ refused
+Holds (bytes m written) = encoded m ≡ written
 
 abbrev pub stations : List ℕ
 stations = 3 ∷ 8 ∷ 14 ∷ []
@@ -50,4 +56,5 @@ examples =
     ∷ settings 65536 8 None
     ∷ settings 65537 8 (Some Size)
     ∷ settings 16 3 (Some Copies)
+    ∷ bytes (AddItem 8 1 5 1 77) (3 ∷ 1 ∷ 0 ∷ 8 ∷ 0 ∷ 0 ∷ 0 ∷ 5 ∷ 0 ∷ 0 ∷ 0 ∷ 0 ∷ 0 ∷ 1 ∷ 0 ∷ 0 ∷ 0 ∷ 0 ∷ 0 ∷ 0 ∷ 0 ∷ 77 ∷ [])
     ∷ []

@@ -9,5 +9,5 @@ pub fn example_count() -> usize
     ensures count { λ r. ⌜ r ≡ length examples ⌝ }
     ensures hold { λ _. ⌜ All Holds examples ⌝ }
 {
-    12
+    13
 }

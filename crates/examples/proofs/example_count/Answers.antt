@@ -9,5 +9,5 @@ pub returns : need.returns
 unfolding distance inArc place owner placeRow
 returns c = record {
   count = refl;
-  hold = (refl, (refl, (refl, (refl, (refl, (refl, (refl, (refl, (refl, (refl, (refl, (refl, tt))))))))))));
+  hold = (refl, (refl, (refl, (refl, (refl, (refl, (refl, (refl, (refl, (refl, (refl, (refl, (refl, tt)))))))))))));
 }

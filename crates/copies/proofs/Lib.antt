@@ -1,0 +1,3 @@
+pub mod Coordinates
+pub mod Facts
+pub mod Records

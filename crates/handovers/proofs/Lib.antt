@@ -1,0 +1,4 @@
+pub mod Ranges
+pub mod Moving
+pub mod Turns
+pub mod Arcs

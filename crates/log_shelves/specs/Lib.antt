@@ -1,0 +1,4 @@
+pub mod Trays
+pub mod Held
+pub mod Cells
+pub mod Fits

@@ -1,0 +1,4 @@
+pub mod Settled
+pub mod Meanings
+pub mod Loops
+pub mod Moves

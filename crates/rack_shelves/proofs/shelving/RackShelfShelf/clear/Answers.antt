@@ -1,0 +1,26 @@
+use mathlib.Core.Path.{ap}
+use lib.ListN.{length}
+use Rattle.copies.specs.Copies.{apart, fromRecords}
+use Rattle.racks.specs.Blanks.{blankCopy}
+use Rattle.racks.specs.Racks.{partsOf}
+use Rattle.racks.proofs.Stays.{stays-emptied, still, ground-stays}
+use Rattle.rack_shelves.proofs.shelving.RackShelfShelf.clear.Needs as need
+
+pub ghost-self : need.ghost-self
+ghost-self c =
+    let old = c .args .self .now .rack in
+    let new = c .empty .last .self in
+    (ap (λ t. apart (t .used)) (c .empty .ensures .after), still blankCopy (partsOf old) (partsOf new) 4096 (stays-emptied blankCopy (partsOf old) (partsOf new) (c .empty .ensures .after)) (c .args .self .now .clean) (c .args .self .now .bounded))
+
+pub returns : need.returns
+returns c =
+    let old = c .args .self .now .rack in
+    let new = c .empty .last .self in
+    let stays = stays-emptied blankCopy (partsOf old) (partsOf new) (c .empty .ensures .after) in
+    record {
+      after = ap (λ p. fromRecords (p .used)) (c .empty .ensures .after);
+      cells = c .empty .ensures .after;
+      kept = ap (λ p. length (p .used)) (c .empty .ensures .after);
+      size = stays .size;
+      same = ground-stays old new (c .empty .ensures .same) (stays .beyond);
+    }

@@ -1,0 +1,6 @@
+pub mod Performing
+pub mod Memberships
+pub mod Sending
+pub mod Itemings
+pub mod Collecting
+pub mod Delivering
