@@ -1,4 +1,6 @@
 // The line of text that tells a call's answer, in memory that is handed in.
+#![tactic(auto)]
+
 ghost use Rattle.std.specs.Prelude.{◌≡◌, ◌≤◌, length, if◌then◌else◌, Ok, Err, nat_lt};
 ghost use Rattle.faults.specs.declared.Fault.TheVariants.{AnswerMemory};
 ghost use Rattle.answer_lines.specs.AnswerLines.{result_of, figure_of, value_of, shown, width_of, answer_line, fronted, least_memory};

@@ -1,4 +1,6 @@
 // The ring's arithmetic: settings, distances, arcs, places, and who owns what.
+#![tactic(auto)]
+
 mod identifiers;
 mod owners;
 mod settings;

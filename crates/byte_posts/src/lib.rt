@@ -1,4 +1,6 @@
 // A post in bytes that are handed in: the messages in order, 22 bytes each, then zeros.
+#![tactic(auto)]
+
 ghost use Rattle.std.specs.Prelude.{◌≤◌};
 ghost use Rattle.byte_posts.specs.Trays.{places_in, Tidy};
 ghost use Rattle.byte_posts.specs.Held.{held_in};

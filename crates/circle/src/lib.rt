@@ -1,4 +1,6 @@
 // The ring of identifiers: what distances, places and owners are, and the laws about them.
+#![tactic(auto)]
+
 ghost use Rattle.circle.specs.Laws.{DistanceLawsHold, PlaceLawsHold, OwnerLawsHold, ListLawsHold};
 
 // Distances on a ring.

@@ -1,4 +1,6 @@
 // The words of a shelf: coordinates, what stands at them, and how a shelf is changed.
+#![tactic(auto)]
+
 ghost use Rattle.std.specs.Prelude.{◌≡◌};
 ghost use Rattle.copies.specs.Copies.{same as one_coordinate, before as comes_before, in_range};
 ghost use Rattle.copies.specs.Facts.{FindFacts, NextFacts, RecordsFacts};

@@ -1,4 +1,6 @@
 // Worked examples of the rules, each proved of the definitions that the contracts cite.
+#![tactic(auto)]
+
 ghost use Rattle.std.specs.Prelude.{◌≡◌, length};
 ghost use Rattle.std.specs.List.{AllByRecursion as All};
 ghost use Rattle.examples.specs.Examples.{Holds, examples};

@@ -1,4 +1,6 @@
 // Why a call is refused. A refusal has a number, the layer that refuses, and a figure.
+#![tactic(auto)]
+
 ghost use Rattle.std.specs.Prelude.{◌≡◌};
 ghost use Rattle.faults.specs.Faults.{number_of, layer_of, figure_of, layer_number};
 

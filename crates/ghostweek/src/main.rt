@@ -1,4 +1,6 @@
 // One result's week on a small ring of stations, from first to last: each call with its answer.
+#![tactic(auto)]
+
 use anyhow::anyhow;
 use arithmetic::Settings;
 use copies::{Coordinate, CopyRecord, Entry};

@@ -1,4 +1,6 @@
 // A handover on any shelf: the copies that a peer owes of an arc go to another.
+#![tactic(auto)]
+
 ghost use Rattle.std.specs.Prelude.{◌≡◌, ◌+◌, Bool, true, false, length, Some, fold, filter, ◌≢◌};
 ghost use Rattle.copies.specs.Copies.{find as found, in_range};
 ghost use Rattle.rules.specs.Handover.{newer, moved, handed, handover};

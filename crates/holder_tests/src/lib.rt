@@ -1,4 +1,5 @@
 // Examples of the holders, at sizes 0, 1 and full.
+#![tactic(auto)]
 
 #[cfg(test)]
 mod posts;

@@ -1,4 +1,6 @@
 // What shelves and posts promise, for every implementation.
+#![tactic(auto)]
+
 ghost use Rattle.std.specs.Prelude.{◌≡◌, ℕ, ◌+◌, ◌-◌, ◌^◌, ◌<◌, ◌≤◌, Bool, true, false, List, [], ◌∷◌, ◌++◌, length, if◌then◌else◌, Some, None, Ok, Err, nat_le};
 ghost use Rattle.std.specs.List.{slice_get, remove};
 ghost use Rattle.faults.specs.declared.Fault.TheVariants.{ShelfFull, PostFull};

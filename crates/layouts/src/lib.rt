@@ -1,5 +1,7 @@
 // A message's 22 bytes: kind, replica, to (2), from (2), start or place (2), end (2), number (4), value (8), high byte first.
 // Fields that a kind does not name are 0.
+#![tactic(auto)]
+
 ghost use Rattle.std.specs.Prelude.{◌≡◌, ◌++◌, length, Some, None, Ok, Err, ◌≢◌};
 ghost use Rattle.messages.specs.declared.Message.{Message as AnyMessage};
 ghost use Rattle.words.specs.Words.{four, eight};

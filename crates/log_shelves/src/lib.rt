@@ -1,4 +1,6 @@
 // A shelf in bytes that are handed in: a log of records, 18 bytes each, then zeros.
+#![tactic(auto)]
+
 ghost use Rattle.std.specs.Prelude.{◌≡◌, ◌≤◌, length};
 ghost use Rattle.logs.specs.Logs.{meaning_of};
 ghost use Rattle.log_shelves.specs.Trays.{places_in, records_in, Tidy};

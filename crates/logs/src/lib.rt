@@ -1,4 +1,6 @@
 // A log of records in bytes: the last record of a coordinate decides.
+#![tactic(auto)]
+
 mod compaction;
 mod lines;
 mod searches;

@@ -1,4 +1,6 @@
 // The exact memory of a shelf after a delivery, for each kind of shelf: the ring's edits, one after the other.
+#![tactic(auto)]
+
 ghost use Rattle.std.specs.Prelude.{◌≡◌, fold};
 ghost use Rattle.copies.specs.Copies.{from_records};
 ghost use Rattle.rules.specs.declared.Call.TheVariants.{Deliver};

@@ -1,4 +1,5 @@
 // The messages that peers send each other.
+#![tactic(auto)]
 
 // Each names the peer that it goes to. `start` and `end` are the ends of an arc.
 #[derive(Clone, Copy, PartialEq, Eq, Debug)]

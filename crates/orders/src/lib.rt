@@ -1,4 +1,6 @@
 // What the lines of a sheet say: the settings, the columns, and the orders.
+#![tactic(auto)]
+
 mod columns;
 mod heads;
 mod orders;

@@ -1,4 +1,6 @@
 // What the messages of any post come to, and a question's message taken back.
+#![tactic(auto)]
+
 ghost use Rattle.std.specs.Prelude.{◌≡◌, length};
 ghost use Rattle.rules.specs.State.{adds, unasked};
 ghost use Rattle.post_scans.specs.Scans.{is_addition, asks_for, asked_at};

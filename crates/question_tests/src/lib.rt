@@ -1,4 +1,6 @@
 // Examples of the questions about places and owners, run.
+#![tactic(auto)]
+
 #[cfg(test)]
 mod tests {
     use arithmetic::{MOST_COPIES, Settings};

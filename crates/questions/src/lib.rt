@@ -1,4 +1,6 @@
 // Questions about where copies belong, for callers outside the library.
+#![tactic(auto)]
+
 mod c;
 mod holdings;
 

@@ -1,4 +1,6 @@
 // A post in memory that is handed in: the messages in order, then blanks.
+#![tactic(auto)]
+
 ghost use Rattle.std.specs.Prelude.{◌≤◌};
 ghost use Rattle.racks.specs.Parts.{size_of, Clean};
 ghost use Rattle.racks.specs.Racks.{parts_of};

@@ -1,4 +1,6 @@
 // A shelf in memory that is handed in: the copies in the order in which they came, then blanks.
+#![tactic(auto)]
+
 ghost use Rattle.std.specs.Prelude.{◌≡◌, ◌≤◌, true};
 ghost use Rattle.copies.specs.Copies.{apart};
 ghost use Rattle.racks.specs.Blanks.{blank_copy};

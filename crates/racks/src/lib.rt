@@ -1,4 +1,6 @@
 // A list of records in memory that is handed in. Places not in use hold the blank.
+#![tactic(auto)]
+
 ghost use Rattle.std.specs.Prelude.{◌≡◌, not, length};
 ghost use Rattle.std.specs.List.{slice_get};
 ghost use Rattle.racks.specs.Laws.{RackFacts};

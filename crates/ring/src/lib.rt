@@ -1,4 +1,6 @@
 // The ring over any shelf and any post.
+#![tactic(auto)]
+
 mod calls;
 mod checks;
 mod deliveries;

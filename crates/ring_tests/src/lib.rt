@@ -1,4 +1,6 @@
 // The same lists of calls over every pairing of shelf and post: the answers are the same.
+#![tactic(auto)]
+
 #[cfg(test)]
 mod tests {
     use arithmetic::Settings;

@@ -1,6 +1,8 @@
 // Answers an order sheet from standard input: a line of names, and then a line for each order.
 //
 //     ringsheet < week.sheet
+#![tactic(auto)]
+
 use byte_posts::BytePost;
 use copies::{Coordinate, CopyRecord, Entry};
 use rack_shelves::RackShelf;

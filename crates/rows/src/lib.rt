@@ -1,4 +1,6 @@
 // Writing over parts of bytes that are lent. A part that does not fit is left as it is.
+#![tactic(auto)]
+
 ghost use Rattle.std.specs.Prelude.{◌≡◌};
 ghost use Rattle.rows.specs.Bytes.{written, cleared, closed_up};
 

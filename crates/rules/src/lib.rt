@@ -1,4 +1,6 @@
 // The words of the ring's six calls: peers and their states, open questions, calls and answers.
+#![tactic(auto)]
+
 use faults::Fault;
 
 // What a peer on the table is doing.

@@ -1,4 +1,6 @@
 // Whole runs of a ring: a list of orders, from an empty ring on.
+#![tactic(auto)]
+
 ghost use Rattle.runs.specs.Orders.{Runs};
 ghost use Rattle.ring.specs.Views.{settled};
 ghost use Rattle.runs.specs.Promise.{Promise};

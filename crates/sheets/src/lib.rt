@@ -1,4 +1,6 @@
 // Order sheets: lines of text in, an answer line for each order out.
+#![tactic(auto)]
+
 mod answers;
 mod heads;
 mod order_lines;

@@ -1,4 +1,6 @@
 // Writing over many places of a slice: a front of one value, and a place closed up.
+#![tactic(auto)]
+
 ghost use Rattle.std.specs.Prelude.{◌≡◌, min, ◌&&◌, ◌∷◌, ◌++◌, length, take, drop, replicate, if◌then◌else◌, nat_le, nat_lt};
 ghost use Rattle.std.specs.List.{remove};
 

@@ -1,4 +1,6 @@
 // The table of peers and the open questions.
+#![tactic(auto)]
+
 mod questions;
 mod searches;
 mod table;

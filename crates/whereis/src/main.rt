@@ -4,6 +4,8 @@
 //
 // prints a row for each replica: its number, its place, the station that owns the place, and that station's
 // share of the ring. With no words it answers for a worked example.
+#![tactic(auto)]
+
 use anyhow::anyhow;
 use arithmetic::Settings;
 use faults::Fault;

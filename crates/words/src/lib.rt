@@ -1,4 +1,6 @@
 // Numbers as bytes, the high byte first. A wider number is two narrower ones.
+#![tactic(auto)]
+
 ghost use Rattle.std.specs.Prelude.{◌≡◌};
 ghost use Rattle.words.specs.Words.{two, four, eight, of16, of32, of64};
 
