@@ -9,7 +9,7 @@ returns-then-at-end c =
     let at = c.args.at in
     let width = c.args.width in
     let end = c.args.end in
-    let moved = c.copy-within.new.self in
-    let same = c.copy-within.ensures.len in
+    let moved = c.copy_within.new.self in
+    let same = c.copy_within.ensures.len in
     let n : length (take (end - (end - width)) (drop (end - width) moved)) ≡ width = omega (arith, length-take (end - (end - width)) (drop (end - width) moved), length-drop (end - width) moved) in
-    closed_is bs at width end moved c.fill.new.self (omega arith) (omega arith) c.copy-within.ensures.after (c.fill.ensures.after (λ y h. h) ∙ ap (λ k. replicate k 0) n)
+    closed_is bs at width end moved c.fill.new.self (omega arith) (omega arith) c.copy_within.ensures.after (c.fill.ensures.after (λ y h. h) ∙ ap (λ k. replicate k 0) n)

@@ -4,4 +4,4 @@ use Rattle.rows.proofs.write.Goals as goal
 
 pub returns-then-at-bytes : goal.returns-then-at-bytes
 returns-then-at-bytes c =
-    written_is c.args.bytes.now c.args.at c.args.row.now c.copy-from-slice.new.self _ (omega arith) (omega arith) c.copy-from-slice.ensures.after
+    written_is c.args.bytes.now c.args.at c.args.row.now c.copy_from_slice.new.self _ (omega arith) (omega arith) c.copy_from_slice.ensures.after

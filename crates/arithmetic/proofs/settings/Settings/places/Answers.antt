@@ -25,6 +25,6 @@ returns-in-Ok c =
     let way = passed_one (leb n k) Identifier (Ok k) c.in-Ok.item c.in-Ok.ensures in
     let is : k ≡ c.in-Ok.item = cc in
     record {
-      row = c.row-of.ensures ∙ ap (place_row n c.args.self.copies) (sym is) ∙ ap (λ t. cond t (replicate most_copies 0) (place_row n c.args.self.copies k)) (sym way.0);
+      row = c.row_of.ensures ∙ ap (place_row n c.args.self.copies) (sym is) ∙ ap (λ t. cond t (replicate most_copies 0) (place_row n c.args.self.copies k)) (sym way.0);
       fault = ap (λ t. cond t (Some Identifier) None) (sym way.0);
     }

@@ -3,4 +3,4 @@ use Rattle.arithmetic.proofs.settings.Settings.predecessor.Goals as goal
 
 pub returns : goal.returns
 unfolding predecessor
-returns c = c.nearest-other.ensures
+returns c = c.nearest_other.ensures

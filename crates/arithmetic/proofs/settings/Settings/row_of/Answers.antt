@@ -10,8 +10,8 @@ loop-i-preserved c =
     let row = c.loop-i.row in
     let i = c.loop-i.i in
     let right : ℕ → ℕ = place_in_row c.args.self.size c.args.self.copies c.args.item in (
-      length-set row i c.place-in-row.result ∙ c.loop-i.invariant.0,
-      λ j less. ap (λ v. get_or (set row i v) j 0) c.place-in-row.ensures ∙ fill_by_more right row i 0 (omega arith) c.loop-i.invariant.1 j less,
+      length-set row i c.place_in_row.result ∙ c.loop-i.invariant.0,
+      λ j less. ap (λ v. get_or (set row i v) j 0) c.place_in_row.ensures ∙ fill_by_more right row i 0 (omega arith) c.loop-i.invariant.1 j less,
     )
 
 pub returns : goal.returns

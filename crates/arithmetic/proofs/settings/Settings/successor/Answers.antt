@@ -3,4 +3,4 @@ use Rattle.arithmetic.proofs.settings.Settings.successor.Goals as goal
 
 pub returns : goal.returns
 unfolding successor
-returns c = c.nearest-other.ensures
+returns c = c.nearest_other.ensures
