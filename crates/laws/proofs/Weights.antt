@@ -135,7 +135,7 @@ module _ (set : Settings) {M : Type 0} (story : Story M) (s : State) (kept : Inv
   at_most_one false = omega arith
 
   spends_delivered : (n : ℕ) → n < length s.post → (o : Option Message) → slice_get s.post n ≡ o → Spends (delivering set s n o)
-  spends_delivered n l None e = absurd (Rattle.copies.proofs.Facts.some-none (sym (Rattle.std.proofs.lemmas.Option.slice_get-get_or s.post n (GetItem 0 0 0 0) l) ∙ e))
+  spends_delivered n l None e = absurd (Rattle.copies.proofs.Facts.some_none (sym (Rattle.std.proofs.lemmas.Option.slice_get-get_or s.post n (GetItem 0 0 0 0) l) ∙ e))
   spends_delivered n l (Some m) e =
       let d : Did = delivered set (with_post (remove s.post n) s) (state_of s.table (addressee m)) m in
       omega (arith, falls_message n m e, at_most_one (accepted d.answer))

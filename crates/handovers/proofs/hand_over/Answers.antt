@@ -42,16 +42,16 @@ returns-then-start-end-2 g c =
     let cells = g.S.Shelf.cells s in
     let all = handed_forward n x p a e sh c.if-filler-giver.false c.if-start-end-2.true in
     record {
-      value = c.move-after.ensures.value ∙ sym (ap length all);
-      after = c.move-after.ensures.after ∙ sym (handover_by g.S.Shelf.after n x p a e sh cells (left p (a + 1) e sh) all);
-      cells = c.move-after.ensures.cells ∙ sym (edits_by g.S.Shelf.after n x p a e sh cells (left p (a + 1) e sh) all);
-      size = c.move-after.ensures.size;
-      same = c.move-after.ensures.same;
+      value = c.move_after.ensures.value ∙ sym (ap length all);
+      after = c.move_after.ensures.after ∙ sym (handover_by g.S.Shelf.after n x p a e sh cells (left p (a + 1) e sh) all);
+      cells = c.move_after.ensures.cells ∙ sym (edits_by g.S.Shelf.after n x p a e sh cells (left p (a + 1) e sh) all);
+      size = c.move_after.ensures.size;
+      same = c.move_after.ensures.same;
     }
 
 -- what the two ranges have together is on the shelf
-pub overflow-add-result : goal.overflow-add-result
-overflow-add-result g c =
+pub overflow_add-result : goal.overflow_add-result
+overflow_add-result g c =
     let n = c.args.settings.size in
     let p = c.args.giver in
     let a = c.args.start in
@@ -59,14 +59,14 @@ overflow-add-result g c =
     let high = c.size.result - 1 in
     let s = c.args.shelf.now in
     let sh = g.S.Shelf.meaning s in
-    let t = c.move-after-up.new.shelf in
+    let t = c.move_after-up.new.shelf in
     let other = c.if-start-end.false in
     let behind = c.if-start-end-2.false in
     let ahead : e < a = omega arith in
-    let rest = round_left g.S.Shelf.after n c.args.filler p a e high sh (g.S.Shelf.meaning t) (g.S.Shelf.cells s) (g.S.Shelf.cells t) c.if-filler-giver.false ahead (ap (λ m. m - 1) c.size.ensures) c.move-after-up.ensures.after in
+    let rest = round_left g.S.Shelf.after n c.args.filler p a e high sh (g.S.Shelf.meaning t) (g.S.Shelf.cells s) (g.S.Shelf.cells t) c.if-filler-giver.false ahead (ap (λ m. m - 1) c.size.ensures) c.move_after-up.ensures.after in
     let few = left_both p (a + 1) high e sh (omega arith) in
-    let up = c.move-after-up.ensures.value in
-    let on = c.move-range-on.ensures.value ∙ ap length rest in
+    let up = c.move_after-up.ensures.value in
+    let on = c.move_range-on.ensures.value ∙ ap length rest in
     let kept = c.count-copies.ensures.kept in
     let within = g.S.Holder.within s in
     let bounded = g.S.Holder.bounded s in
@@ -83,17 +83,17 @@ returns g c =
     let high = c.size.result - 1 in
     let top = ap (λ m. m - 1) c.size.ensures in
     let s = c.args.shelf.now in
-    let t = c.move-after-up.new.shelf in
-    let u = c.move-range-on.new.shelf in
+    let t = c.move_after-up.new.shelf in
+    let u = c.move_range-on.new.shelf in
     let sh = g.S.Shelf.meaning s in
     let other = c.if-filler-giver.false in
     let apart = c.if-start-end.false in
     let behind = c.if-start-end-2.false in
     let ahead : e < a = omega arith in
     record {
-      value = round_value g.S.Shelf.after n x p a e high sh (g.S.Shelf.meaning t) (g.S.Shelf.cells s) (g.S.Shelf.cells t) other ahead top c.move-after-up.result c.move-range-on.result c.move-after-up.ensures.value c.move-range-on.ensures.value c.move-after-up.ensures.after;
-      after = round_after g.S.Shelf.after n x p a e high sh (g.S.Shelf.meaning t) (g.S.Shelf.cells s) (g.S.Shelf.cells t) other ahead top (g.S.Shelf.meaning u) c.move-after-up.ensures.after c.move-range-on.ensures.after;
-      cells = round_cells g.S.Shelf.after n x p a e high sh (g.S.Shelf.meaning t) (g.S.Shelf.cells s) (g.S.Shelf.cells t) other ahead top (g.S.Shelf.cells u) c.move-after-up.ensures.after c.move-after-up.ensures.cells c.move-range-on.ensures.cells;
-      size = c.move-range-on.ensures.size ∙ c.move-after-up.ensures.size;
-      same = c.move-range-on.ensures.same ∙ c.move-after-up.ensures.same;
+      value = round_value g.S.Shelf.after n x p a e high sh (g.S.Shelf.meaning t) (g.S.Shelf.cells s) (g.S.Shelf.cells t) other ahead top c.move_after-up.result c.move_range-on.result c.move_after-up.ensures.value c.move_range-on.ensures.value c.move_after-up.ensures.after;
+      after = round_after g.S.Shelf.after n x p a e high sh (g.S.Shelf.meaning t) (g.S.Shelf.cells s) (g.S.Shelf.cells t) other ahead top (g.S.Shelf.meaning u) c.move_after-up.ensures.after c.move_range-on.ensures.after;
+      cells = round_cells g.S.Shelf.after n x p a e high sh (g.S.Shelf.meaning t) (g.S.Shelf.cells s) (g.S.Shelf.cells t) other ahead top (g.S.Shelf.cells u) c.move_after-up.ensures.after c.move_after-up.ensures.cells c.move_range-on.ensures.cells;
+      size = c.move_range-on.ensures.size ∙ c.move_after-up.ensures.size;
+      same = c.move_range-on.ensures.same ∙ c.move_after-up.ensures.same;
     }

@@ -13,13 +13,13 @@ loop-next-init g c =
       refl,
     )
 
-pub move-one-requires : goal.move-one-requires
-move-one-requires g c =
+pub move_one-requires : goal.move_one-requires
+move_one-requires g c =
     let s = c.loop-next.shelf in
     next_found (g.S.Shelf.meaning s) c.args.giver c.args.low c.args.high c.in-Some.one (g.S.Shelf.ordered s) (sym c.loop-next.invariant.0.value ∙ c.in-Some.is)
 
-pub overflow-add-count : goal.overflow-add-count
-overflow-add-count g c =
+pub overflow_add-count : goal.overflow_add-count
+overflow_add-count g c =
     let s₀ = c.args.shelf.now in
     let s = c.loop-next.shelf in
     let less = count_more g.S.Shelf.after c.args.filler c.args.giver c.args.low c.args.high g.S.Holder.most (g.S.Shelf.meaning s₀) (g.S.Shelf.cells s₀) c.loop-next.next c.loop-next.count (g.S.Shelf.meaning s) (g.S.Shelf.cells s) c.loop-next.invariant.0 c.in-Some.one c.in-Some.is c.requires in
@@ -30,17 +30,17 @@ pub loop-next-smaller : goal.loop-next-smaller
 loop-next-smaller g c =
     let s₀ = c.args.shelf.now in
     let s = c.loop-next.shelf in
-    sofar_less g.S.Shelf.after c.args.filler c.args.giver c.args.low c.args.high g.S.Holder.most (g.S.Shelf.meaning s₀) (g.S.Shelf.cells s₀) c.loop-next.next c.loop-next.count (g.S.Shelf.meaning s) (g.S.Shelf.cells s) c.loop-next.invariant.0 c.in-Some.one c.in-Some.is c.requires (g.S.Shelf.meaning c.move-one.new.shelf) c.move-one.ensures.after
+    sofar_less g.S.Shelf.after c.args.filler c.args.giver c.args.low c.args.high g.S.Holder.most (g.S.Shelf.meaning s₀) (g.S.Shelf.cells s₀) c.loop-next.next c.loop-next.count (g.S.Shelf.meaning s) (g.S.Shelf.cells s) c.loop-next.invariant.0 c.in-Some.one c.in-Some.is c.requires (g.S.Shelf.meaning c.move_one.new.shelf) c.move_one.ensures.after
 
 pub loop-next-preserved : goal.loop-next-preserved
 loop-next-preserved g c =
     let s₀ = c.args.shelf.now in
     let s = c.loop-next.shelf in
-    let t = c.move-one.new.shelf in (
-      sofar_more g.S.Shelf.after c.args.filler c.args.giver c.args.low c.args.high g.S.Holder.most (g.S.Shelf.meaning s₀) (g.S.Shelf.cells s₀) c.loop-next.next c.loop-next.count (g.S.Shelf.meaning s) (g.S.Shelf.cells s) c.loop-next.invariant.0 c.in-Some.one c.in-Some.is c.requires c.next-next-in-Some.result (g.S.Shelf.meaning t) (g.S.Shelf.cells t) c.move-one.ensures.after c.move-one.ensures.cells c.next-next-in-Some.ensures.value,
-      c.move-one.ensures.kept,
-      c.move-one.ensures.size ∙ c.loop-next.invariant.2,
-      c.move-one.ensures.same ∙ c.loop-next.invariant.3,
+    let t = c.move_one.new.shelf in (
+      sofar_more g.S.Shelf.after c.args.filler c.args.giver c.args.low c.args.high g.S.Holder.most (g.S.Shelf.meaning s₀) (g.S.Shelf.cells s₀) c.loop-next.next c.loop-next.count (g.S.Shelf.meaning s) (g.S.Shelf.cells s) c.loop-next.invariant.0 c.in-Some.one c.in-Some.is c.requires c.next-next-in-Some.result (g.S.Shelf.meaning t) (g.S.Shelf.cells t) c.move_one.ensures.after c.move_one.ensures.cells c.next-next-in-Some.ensures.value,
+      c.move_one.ensures.kept,
+      c.move_one.ensures.size ∙ c.loop-next.invariant.2,
+      c.move_one.ensures.same ∙ c.loop-next.invariant.3,
     )
 
 pub returns : goal.returns
@@ -50,9 +50,9 @@ returns g c =
     let sh₀ = g.S.Shelf.meaning s₀ in
     let cells₀ = g.S.Shelf.cells s₀ in
     record {
-      value = count_all g.S.Shelf.after c.args.filler c.args.giver c.args.low c.args.high g.S.Holder.most sh₀ cells₀ c.loop-next.next c.loop-next.count (g.S.Shelf.meaning s) (g.S.Shelf.cells s) c.loop-next.invariant.0 c.in-default.is;
-      after = after_all g.S.Shelf.after c.args.filler c.args.giver c.args.low c.args.high g.S.Holder.most sh₀ cells₀ c.loop-next.next c.loop-next.count (g.S.Shelf.meaning s) (g.S.Shelf.cells s) c.loop-next.invariant.0 c.in-default.is;
-      cells = cells_all g.S.Shelf.after c.args.filler c.args.giver c.args.low c.args.high g.S.Holder.most sh₀ cells₀ c.loop-next.next c.loop-next.count (g.S.Shelf.meaning s) (g.S.Shelf.cells s) c.loop-next.invariant.0 c.in-default.is;
+      value = count_all g.S.Shelf.after c.args.filler c.args.giver c.args.low c.args.high g.S.Holder.most sh₀ cells₀ c.loop-next.next c.loop-next.count (g.S.Shelf.meaning s) (g.S.Shelf.cells s) c.loop-next.invariant.0 c.in_default.is;
+      after = after_all g.S.Shelf.after c.args.filler c.args.giver c.args.low c.args.high g.S.Holder.most sh₀ cells₀ c.loop-next.next c.loop-next.count (g.S.Shelf.meaning s) (g.S.Shelf.cells s) c.loop-next.invariant.0 c.in_default.is;
+      cells = cells_all g.S.Shelf.after c.args.filler c.args.giver c.args.low c.args.high g.S.Holder.most sh₀ cells₀ c.loop-next.next c.loop-next.count (g.S.Shelf.meaning s) (g.S.Shelf.cells s) c.loop-next.invariant.0 c.in_default.is;
       kept = c.loop-next.invariant.1;
       size = c.loop-next.invariant.2;
       same = c.loop-next.invariant.3;

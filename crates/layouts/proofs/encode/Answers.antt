@@ -5,7 +5,7 @@ use Rattle.layouts.proofs.encode.Goals as goal
 
 pub returns : goal.returns
 returns c =
-    let f = c.fields-of-fields.result in
+    let f = c.fields_of-fields.result in
     let bytes : laid f.kind f.replica c.bytes16.result c.bytes16-2.result c.bytes16-3.result c.bytes16-4.result c.bytes32.result c.bytes64.result ≡ encoded c.args.message =
-    laid_out f _ _ _ _ _ _ c.bytes16.ensures c.bytes16-2.ensures c.bytes16-3.ensures c.bytes16-4.ensures c.bytes32.ensures c.bytes64.ensures ∙ ap bytes_of c.fields-of-fields.ensures in
+    laid_out f _ _ _ _ _ _ c.bytes16.ensures c.bytes16-2.ensures c.bytes16-3.ensures c.bytes16-4.ensures c.bytes32.ensures c.bytes64.ensures ∙ ap bytes_of c.fields_of-fields.ensures in
     record { value = bytes; back = ap decoded bytes ∙ decoded_back c.args.message }

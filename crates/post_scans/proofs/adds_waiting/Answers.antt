@@ -2,7 +2,7 @@ use Rattle.std.proofs.Common.{◌≡◌, ◌<◌, ◌≤◌, true, false, length
 use Rattle.post_scans.specs.Scans.{is_addition}
 use Rattle.post_scans.proofs.Turns.{adds_more, adds_skip, adds_all}
 use Rattle.post_scans.proofs.adds_waiting.Goals as goal
-use Rattle.post_scans.proofs.adds_waiting.Goals.{then-is-addition, else-is-addition}
+use Rattle.post_scans.proofs.adds_waiting.Goals.{then-is_addition, else-is_addition}
 
 pub loop-i-preserved : goal.loop-i-preserved
 loop-i-preserved g c =
@@ -10,10 +10,10 @@ loop-i-preserved g c =
     let i = c.loop-i.i in
     let all = c.count-n.ensures.value in
     let in' : i < length ms = omega arith in
-    let told = ap is_addition (sym c.look.ensures.value) ∙ sym c.is-addition.ensures in
-    elim c.if-is-addition.branch [
-      | then-is-addition w ↦ let e = adds_more ms i in' (told ∙ w.if-is-addition.true) in (omega (arith, w.count-is, c.loop-i.invariant.0), omega (arith, w.count-is, c.loop-i.invariant.1))
-      | else-is-addition w ↦ let e = adds_skip ms i in' (told ∙ w.if-is-addition.false) in (omega (arith, w.count-is, c.loop-i.invariant.0), omega (arith, w.count-is, c.loop-i.invariant.1))
+    let told = ap is_addition (sym c.look.ensures.value) ∙ sym c.is_addition.ensures in
+    elim c.if-is_addition.branch [
+      | then-is_addition w ↦ let e = adds_more ms i in' (told ∙ w.if-is_addition.true) in (omega (arith, w.count-is, c.loop-i.invariant.0), omega (arith, w.count-is, c.loop-i.invariant.1))
+      | else-is_addition w ↦ let e = adds_skip ms i in' (told ∙ w.if-is_addition.false) in (omega (arith, w.count-is, c.loop-i.invariant.0), omega (arith, w.count-is, c.loop-i.invariant.1))
     ]
 
 pub returns : goal.returns

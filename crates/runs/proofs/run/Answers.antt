@@ -16,8 +16,8 @@ returns g c =
     let set = settled c.args.settings (g.S.Holder.room c.args.shelf.now) (g.P.Holder.room c.args.post.now) in
     let calls = map call_of c.args.orders.now in
     let made = c.new-ring.ensures in
-    let done = c.perform-all.ensures in
-    let answers : map answer_of c.perform-all.new.orders ≡ answers_from set empty calls = done.answers ∙ (λ j. answers_from (made.size j) (made.state j) calls) in
+    let done = c.perform_all.ensures in
+    let answers : map answer_of c.perform_all.new.orders ≡ answers_from set empty calls = done.answers ∙ (λ j. answers_from (made.size j) (made.state j) calls) in
     record {
       calls = done.calls;
       answers = λ before later call split. ap (λ (l : List Answer). slice_get l (length before)) (answers ∙ ap (answers_from set empty) split) ∙ answer_at set empty before later call;

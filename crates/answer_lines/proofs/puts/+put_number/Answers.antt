@@ -9,28 +9,28 @@ use Rattle.answer_lines.proofs.puts.+put_number.Goals as goal
 longer : (n : ℕ) → 10 ≤ n → n < 2 ^ 64 → length (decimal n) ≡ length (decimal (n / 10)) + 1
 longer n h fits = ap length (decimal_step n h fits) ∙ length_push (decimal (n / 10)) (48 + n % 10)
 
-pub put-byte-requires : goal.put-byte-requires
-put-byte-requires t c = let one = ap length (decimal_digit c.args.n c.if-n-lt10.true) in omega (arith, c.requires)
+pub put_byte-requires : goal.put_byte-requires
+put_byte-requires t c = let one = ap length (decimal_digit c.args.n c.if-n-lt10.true) in omega (arith, c.requires)
 
 pub returns-then-n-lt10 : goal.returns-then-n-lt10
 returns-then-n-lt10 t c =
-    subst (λ (s : List ℕ). Puts c.args.memory.now c.args.at s c.put-byte.new.memory c.put-byte.result) (sym (decimal_digit c.args.n c.if-n-lt10.true)) c.put-byte.ensures
+    subst (λ (s : List ℕ). Puts c.args.memory.now c.args.at s c.put_byte.new.memory c.put_byte.result) (sym (decimal_digit c.args.n c.if-n-lt10.true)) c.put_byte.ensures
 
-pub put-number-next-requires : goal.put-number-next-requires
-put-number-next-requires t c =
+pub put_number-next-requires : goal.put_number-next-requires
+put_number-next-requires t c =
     let fits : c.args.n < 2 ^ 64 = omega arith in
     let more = longer c.args.n c.if-n-lt10.false fits in
     (omega arith, omega (arith, c.requires))
 
-pub put-byte-requires-2 : goal.put-byte-requires-2
-put-byte-requires-2 t c =
+pub put_byte-requires-2 : goal.put_byte-requires-2
+put_byte-requires-2 t c =
     let n = c.args.n in
     let memory = c.args.memory.now in
     let fits : n < 2 ^ 64 = omega arith in
     let more = longer n c.if-n-lt10.false fits in
     let room : c.args.at + length (decimal (n / 10)) ≤ length memory = omega (arith, c.requires) in
-    let same = puts_length memory c.args.at (decimal (n / 10)) c.put-number-next.new.memory c.put-number-next.result room c.put-number-next.ensures in
-    let behind = c.put-number-next.ensures.behind in
+    let same = puts_length memory c.args.at (decimal (n / 10)) c.put_number-next.new.memory c.put_number-next.result room c.put_number-next.ensures in
+    let behind = c.put_number-next.ensures.behind in
     omega (arith, c.requires)
 
 pub returns : goal.returns
@@ -39,5 +39,5 @@ returns t c =
     let memory = c.args.memory.now in
     let fits : n < 2 ^ 64 = omega arith in
     let within : c.args.at ≤ length memory = omega (arith, c.requires) in
-    let put = puts_then memory c.args.at (decimal (n / 10)) ((48 + n % 10) ∷ []) c.put-number-next.new.memory c.put-byte-2.new.memory c.put-number-next.result c.put-byte-2.result within c.put-number-next.ensures c.put-byte-2.ensures in
-    subst (λ (s : List ℕ). Puts memory c.args.at s c.put-byte-2.new.memory c.put-byte-2.result) (sym (decimal_step n c.if-n-lt10.false fits)) put
+    let put = puts_then memory c.args.at (decimal (n / 10)) ((48 + n % 10) ∷ []) c.put_number-next.new.memory c.put_byte-2.new.memory c.put_number-next.result c.put_byte-2.result within c.put_number-next.ensures c.put_byte-2.ensures in
+    subst (λ (s : List ℕ). Puts memory c.args.at s c.put_byte-2.new.memory c.put_byte-2.result) (sym (decimal_step n c.if-n-lt10.false fits)) put

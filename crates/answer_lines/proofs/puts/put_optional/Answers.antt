@@ -8,12 +8,12 @@ pub returns-in-None : goal.returns-in-None
 returns-in-None c =
     let memory = c.args.memory.now in
     let within : c.args.at ≤ length memory = omega (arith, c.requires) in
-    let put = puts_then memory c.args.at (44 ∷ []) (45 ∷ []) c.put-byte-at.new.memory c.put-byte.new.memory c.put-byte-at.result c.put-byte.result within c.put-byte-at.ensures c.put-byte.ensures in
-    subst (λ (o : Option ℕ). Puts memory c.args.at (44 ∷ shown o) c.put-byte.new.memory c.put-byte.result) (sym c.in-None.is) put
+    let put = puts_then memory c.args.at (44 ∷ []) (45 ∷ []) c.put_byte-at.new.memory c.put_byte.new.memory c.put_byte-at.result c.put_byte.result within c.put_byte-at.ensures c.put_byte.ensures in
+    subst (λ (o : Option ℕ). Puts memory c.args.at (44 ∷ shown o) c.put_byte.new.memory c.put_byte.result) (sym c.in-None.is) put
 
 pub returns-in-Some : goal.returns-in-Some
 returns-in-Some c =
     let memory = c.args.memory.now in
     let within : c.args.at ≤ length memory = omega (arith, c.requires) in
-    let put = puts_then memory c.args.at (44 ∷ []) (decimal c.in-Some.n) c.put-byte-at.new.memory c.put-number.new.memory c.put-byte-at.result c.put-number.result within c.put-byte-at.ensures c.put-number.ensures in
-    subst (λ (o : Option ℕ). Puts memory c.args.at (44 ∷ shown o) c.put-number.new.memory c.put-number.result) (sym c.in-Some.is) put
+    let put = puts_then memory c.args.at (44 ∷ []) (decimal c.in-Some.n) c.put_byte-at.new.memory c.put_number.new.memory c.put_byte-at.result c.put_number.result within c.put_byte-at.ensures c.put_number.ensures in
+    subst (λ (o : Option ℕ). Puts memory c.args.at (44 ∷ shown o) c.put_number.new.memory c.put_number.result) (sym c.in-Some.is) put

@@ -13,6 +13,6 @@ returns c =
     let s = c.args.self in
     let h = held_in s.tray in
     record {
-      value = c.into-memory.ensures.value ∙ (s.tidy ∙ ap (λ n. flat_map encoded (messages_in h) ++ (zeros (22 * (places_in h - n)) ++ beyond_in 22 256 h.bytes)) (kept h));
-      same = c.into-memory.ensures.same;
+      value = c.into_memory.ensures.value ∙ (s.tidy ∙ ap (λ n. flat_map encoded (messages_in h) ++ (zeros (22 * (places_in h - n)) ++ beyond_in 22 256 h.bytes)) (kept h));
+      same = c.into_memory.ensures.same;
     }

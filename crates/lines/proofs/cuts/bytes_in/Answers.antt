@@ -7,9 +7,9 @@ pub loop-init : goal.loop-init
 loop-init c = passed_none c.args.line.now
 
 pub loop-preserved : goal.loop-preserved
-loop-preserved c = passed_more c.args.line.now c.loop.counter c.loop.rest.now c.cut-at.result.1.now c.cut-at.ensures.back c.loop.invariant
+loop-preserved c = passed_more c.args.line.now c.loop.counter c.loop.rest.now c.cut_at.result.1.now c.cut_at.ensures.back c.loop.invariant
 
 pub returns : goal.returns
 returns c =
     let end : c.loop.counter ≡ c.args.column = omega arith in
-    c.cut-at-2.ensures.front ∙ passed_all c.args.line.now c.loop.counter c.loop.rest.now c.loop.invariant ∙ ap (field_at c.args.line.now) end
+    c.cut_at-2.ensures.front ∙ passed_all c.args.line.now c.loop.counter c.loop.rest.now c.loop.invariant ∙ ap (field_at c.args.line.now) end

@@ -19,5 +19,5 @@ returns c =
     let i = c.loop-byte.byte-index in
     let all : length line ≤ i = omega arith in
     let end = count_all line i all in
-    let some = some_tested line c.is-empty.result c.is-empty.ensures c.if-is-empty.false in
+    let some = some_tested line c.is_empty.result c.is_empty.ensures c.if-is_empty.false in
     omega (arith, c.loop-byte.invariant.0, ap length (fields_some line some))

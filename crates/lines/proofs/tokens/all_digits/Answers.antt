@@ -4,13 +4,13 @@ use Rattle.std.proofs.lemmas.List.{at_drop_all}
 use Rattle.lines.proofs.Digits.{digit_here, no_digit_here}
 use Rattle.lines.proofs.tokens.all_digits.Goals as goal
 
-pub returns-then-not-is-ascii-digit : goal.returns-then-not-is-ascii-digit
-returns-then-not-is-ascii-digit c =
-    no_digit_here c.args.text.now c.loop-byte.byte-index c.loop-byte-test.true c.is-ascii-digit.result c.is-ascii-digit.ensures.value c.if-not-is-ascii-digit.true ∙ c.loop-byte.invariant
+pub returns-then-not-is_ascii_digit : goal.returns-then-not-is_ascii_digit
+returns-then-not-is_ascii_digit c =
+    no_digit_here c.args.text.now c.loop-byte.byte-index c.loop-byte-test.true c.is_ascii_digit.result c.is_ascii_digit.ensures.value c.if-not-is_ascii_digit.true ∙ c.loop-byte.invariant
 
 pub loop-byte-preserved : goal.loop-byte-preserved
 loop-byte-preserved c =
-    digit_here c.args.text.now c.loop-byte.byte-index c.loop-byte-test.true c.is-ascii-digit.result c.is-ascii-digit.ensures.value c.if-not-is-ascii-digit.false ∙ c.loop-byte.invariant
+    digit_here c.args.text.now c.loop-byte.byte-index c.loop-byte-test.true c.is_ascii_digit.result c.is_ascii_digit.ensures.value c.if-not-is_ascii_digit.false ∙ c.loop-byte.invariant
 
 pub returns : goal.returns
 returns c =

@@ -2,7 +2,7 @@ use Rattle.std.proofs.Common.{◌+◌, ◌/◌, ◌<◌, ◌≤◌, length, sym,
 use Rattle.logs.proofs.Meanings.{squeezed_own}
 use Rattle.logs.proofs.Moves.{moved_past, moved_in, moved_out, moved_end, carried, Done}
 use Rattle.logs.proofs.compaction.compact.Goals as goal
-use Rattle.logs.proofs.compaction.compact.Goals.{then-not-same+then-lasts-before, else-not-same, else-not-same-via-then-not-same+else-lasts-before, else-not-same-via-else-not-same}
+use Rattle.logs.proofs.compaction.compact.Goals.{then-not-same+then-lasts_before, else-not-same, else-not-same-via-then-not-same+else-lasts_before, else-not-same-via-else-not-same}
 
 pub loop-i-preserved : goal.loop-i-preserved
 loop-i-preserved c =
@@ -12,14 +12,14 @@ loop-i-preserved c =
     let at = c.args.at in
     let i = c.loop-i.i in
     let moved = c.loop-i.moved in
-    let r = c.line-at-line.result in
+    let r = c.line_at-line.result in
     let fits : n ≤ length now / 18 = omega arith in
     let more : i < n = omega arith in
     elim c.if-not-same.branch [
-      | then-not-same+then-lasts-before w ↦ carried n bs _ _ at (i + 1) _ _ w.bytes-is w.moved-is (moved_in n bs now at i moved r w.line-bytes.result w.write.new.bytes c.loop-i.invariant more fits c.line-at-line.ensures (sym c.same.ensures ∙ w.if-not-same.true) (sym w.if-lasts-before.ensures) w.line-bytes.ensures w.write.ensures)
+      | then-not-same+then-lasts_before w ↦ carried n bs _ _ at (i + 1) _ _ w.bytes-is w.moved-is (moved_in n bs now at i moved r w.line_bytes.result w.write.new.bytes c.loop-i.invariant more fits c.line_at-line.ensures (sym c.same.ensures ∙ w.if-not-same.true) (sym w.if-lasts_before.ensures) w.line_bytes.ensures w.write.ensures)
       | else-not-same w ↦ carried n bs _ _ at (i + 1) _ _ w.bytes-is w.moved-is (elim w.else-not-same.branch [
-        | else-not-same-via-then-not-same+else-lasts-before v ↦ moved_out n bs now at i moved r c.loop-i.invariant more c.line-at-line.ensures (sym v.if-lasts-before.ensures)
-        | else-not-same-via-else-not-same v ↦ moved_past n bs now at i moved r c.loop-i.invariant more c.line-at-line.ensures (squeezed_own at r _ (sym c.same.ensures ∙ v.if-not-same.false))
+        | else-not-same-via-then-not-same+else-lasts_before v ↦ moved_out n bs now at i moved r c.loop-i.invariant more c.line_at-line.ensures (sym v.if-lasts_before.ensures)
+        | else-not-same-via-else-not-same v ↦ moved_past n bs now at i moved r c.loop-i.invariant more c.line_at-line.ensures (squeezed_own at r _ (sym c.same.ensures ∙ v.if-not-same.false))
       ])
     ]
 

@@ -5,11 +5,11 @@ use Rattle.logs.proofs.searches.named_from.Goals as goal
 
 pub returns-then-same : goal.returns-then-same
 returns-then-same c =
-    sym (named_stop c.args.count c.args.bytes.now c.loop-i.i c.line-at.result c.args.at (omega arith) c.line-at.ensures (sym c.if-same.ensures)) ∙ c.loop-i.invariant
+    sym (named_stop c.args.count c.args.bytes.now c.loop-i.i c.line_at.result c.args.at (omega arith) c.line_at.ensures (sym c.if-same.ensures)) ∙ c.loop-i.invariant
 
 pub loop-i-preserved : goal.loop-i-preserved
 loop-i-preserved c =
-    named_on c.args.count c.args.bytes.now c.loop-i.i c.line-at.result c.args.at (omega arith) c.line-at.ensures (sym c.if-same.ensures) ∙ c.loop-i.invariant
+    named_on c.args.count c.args.bytes.now c.loop-i.i c.line_at.result c.args.at (omega arith) c.line_at.ensures (sym c.if-same.ensures) ∙ c.loop-i.invariant
 
 pub returns : goal.returns
 returns c =

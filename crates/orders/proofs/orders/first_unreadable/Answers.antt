@@ -8,13 +8,13 @@ pub loop-c-init : goal.loop-c-init
 unfolding first_unreadable
 loop-c-init c = refl
 
-pub returns-then-is-unreadable : goal.returns-then-is-unreadable
-returns-then-is-unreadable c =
-    first_here (unreadable c.args.columns c.args.verb (line_of c.args.lines.now)) 7 c.loop-c.c c.loop-c-test.true (sym c.is-unreadable.ensures ∙ c.if-is-unreadable.true) ∙ c.loop-c.invariant
+pub returns-then-is_unreadable : goal.returns-then-is_unreadable
+returns-then-is_unreadable c =
+    first_here (unreadable c.args.columns c.args.verb (line_of c.args.lines.now)) 7 c.loop-c.c c.loop-c-test.true (sym c.is_unreadable.ensures ∙ c.if-is_unreadable.true) ∙ c.loop-c.invariant
 
 pub loop-c-preserved : goal.loop-c-preserved
 loop-c-preserved c =
-    first_later (unreadable c.args.columns c.args.verb (line_of c.args.lines.now)) 7 c.loop-c.c c.loop-c-test.true (sym c.is-unreadable.ensures ∙ c.if-is-unreadable.false) ∙ c.loop-c.invariant
+    first_later (unreadable c.args.columns c.args.verb (line_of c.args.lines.now)) 7 c.loop-c.c c.loop-c-test.true (sym c.is_unreadable.ensures ∙ c.if-is_unreadable.false) ∙ c.loop-c.invariant
 
 pub returns : goal.returns
 returns c = first_none (unreadable c.args.columns c.args.verb (line_of c.args.lines.now)) 7 c.loop-c.c c.loop-c-test.false ∙ c.loop-c.invariant

@@ -12,7 +12,7 @@ returns c =
     let n = c.args.size in
     let i = c.args.identifier in
     let bytes = c.args.members.now in
-    let value = c.code.ensures ∙ ap coded c.owner-answer.ensures in
+    let value = c.code.ensures ∙ ap coded c.owner_answer.ensures in
     record {
       value = value;
       nearest = nearest_below n i (members_of bytes) (size_check n ∷ (identifier_check n i ∷ ((bad_members n bytes, Bytes) ∷ []))) c.code.result value;

@@ -7,6 +7,6 @@ use Rattle.rack_posts.proofs.RackPost.into_memory.Goals as goal
 pub returns : goal.returns
 returns c =
     record {
-      value = c.into-memory.ensures.value ∙ memory_clean blank_message (parts_of c.args.self.rack) c.args.self.clean;
-      same = c.into-memory.ensures.same;
+      value = c.into_memory.ensures.value ∙ memory_clean blank_message (parts_of c.args.self.rack) c.args.self.clean;
+      same = c.into_memory.ensures.same;
     }

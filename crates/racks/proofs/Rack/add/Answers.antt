@@ -2,8 +2,8 @@ use Rattle.std.proofs.Common.{◌≡◌, ◌+◌, ◌-◌, ◌<◌, ◌≤◌, m
 use Rattle.racks.proofs.Cuts.{size_cut, full_cut, not_full_cut, cut_added, cut_not_added}
 use Rattle.racks.proofs.Rack.add.Goals as goal
 
-pub offset-bounds-self-self : goal.offset-bounds-self-self
-offset-bounds-self-self g c =
+pub offset_bounds-self-self : goal.offset_bounds-self-self
+offset_bounds-self-self g c =
     let s = c.args.self.now in
     let n = size_cut s.records.now s.largest s.count in
     search rules

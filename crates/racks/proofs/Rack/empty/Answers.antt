@@ -8,6 +8,6 @@ returns g c =
     let s = c.args.self.now in
     let m = s.records.now in
     record {
-      after = ap (λ t. cut t s.largest 0) c.fill-front.ensures ∙ (cut_emptied m s.largest s.count (min s.largest (length m)) c.blank.result refl ∙ ap (λ b. emptied b (cut m s.largest s.count)) c.blank.ensures);
+      after = ap (λ t. cut t s.largest 0) c.fill_front.ensures ∙ (cut_emptied m s.largest s.count (min s.largest (length m)) c.blank.result refl ∙ ap (λ b. emptied b (cut m s.largest s.count)) c.blank.ensures);
       same = refl {a = s.records.ghost_name};
     }

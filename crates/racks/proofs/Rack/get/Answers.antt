@@ -2,8 +2,8 @@ use Rattle.std.proofs.Common.{◌≡◌, ◌+◌, ◌-◌, ◌<◌, ◌≤◌, m
 use Rattle.racks.proofs.Cuts.{length_used, nth_cut, nth_cut_past}
 use Rattle.racks.proofs.Rack.get.Goals as goal
 
-pub offset-bounds-records-n : goal.offset-bounds-records-n
-offset-bounds-records-n g c =
+pub offset_bounds-records-n : goal.offset_bounds-records-n
+offset_bounds-records-n g c =
     let s = c.args.self.now in
     let n = length_used s.records.now s.largest s.count in
     omega arith

@@ -2,8 +2,8 @@ use Rattle.std.proofs.Common.{◌≡◌, ◌+◌, ◌-◌, ◌<◌, ◌≤◌, m
 use Rattle.racks.proofs.Cuts.{length_used, after_used}
 use Rattle.racks.proofs.Rack.in_use.Goals as goal
 
-pub slice-bounds-result-end : goal.slice-bounds-result-end
-slice-bounds-result-end g c =
+pub slice_bounds-result-end : goal.slice_bounds-result-end
+slice_bounds-result-end g c =
     let s = c.args.self.now in
     let n = length_used s.records.now s.largest s.count in
     search rules

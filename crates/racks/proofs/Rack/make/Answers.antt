@@ -8,6 +8,6 @@ returns g c =
     let m = c.args.memory.now in
     let l = c.args.largest in
     record {
-      after = ap (λ t. cut t l 0) c.fill-front.ensures ∙ (cut_emptied m l 0 (min l (length m)) c.blank.result refl ∙ ap (λ b. emptied b (cut m l 0)) c.blank.ensures);
-      same = refl {a = c.args.memory.name};
+      after = ap (λ t. cut t l 0) c.fill_front.ensures ∙ (cut_emptied m l 0 (min l (length m)) c.blank.result refl ∙ ap (λ b. emptied b (cut m l 0)) c.blank.ensures);
+      same = refl {a = c.args.memory.ghost_name};
     }

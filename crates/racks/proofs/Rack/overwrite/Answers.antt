@@ -2,8 +2,8 @@ use Rattle.std.proofs.Common.{◌≡◌, ◌+◌, ◌-◌, ◌<◌, ◌≤◌, m
 use Rattle.racks.proofs.Cuts.{length_used, cut_overwritten, cut_not_overwritten}
 use Rattle.racks.proofs.Rack.overwrite.Goals as goal
 
-pub offset-bounds-self-n : goal.offset-bounds-self-n
-offset-bounds-self-n g c =
+pub offset_bounds-self-n : goal.offset_bounds-self-n
+offset_bounds-self-n g c =
     let s = c.args.self.now in
     let n = length_used s.records.now s.largest s.count in
     search rules

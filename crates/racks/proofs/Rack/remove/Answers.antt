@@ -13,7 +13,7 @@ returns-then-n-used g c =
     let test : (ltb c.args.n used && leb used (length m)) ≡ true = and_from (ltb c.args.n used) (leb used (length m)) (lt-ltb c.args.n used c.if-n-used.true) (le-leb used (length m) (omega arith)) in
     record {
       value = c.get-item.ensures;
-      after = ap (λ t. cut t s.largest (used - 1)) (c.close-up.ensures ∙ cond-true (ltb c.args.n used && leb used (length m)) _ m test) ∙ (cut_closed m s.largest s.count c.args.n used c.blank.result (omega arith) c.if-n-used.true ∙ ap (λ b. closed_up b (cut m s.largest s.count) c.args.n) c.blank.ensures);
+      after = ap (λ t. cut t s.largest (used - 1)) (c.close_up.ensures ∙ cond-true (ltb c.args.n used && leb used (length m)) _ m test) ∙ (cut_closed m s.largest s.count c.args.n used c.blank.result (omega arith) c.if-n-used.true ∙ ap (λ b. closed_up b (cut m s.largest s.count) c.args.n) c.blank.ensures);
       same = refl {a = s.records.ghost_name};
     }
 

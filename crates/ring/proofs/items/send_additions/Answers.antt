@@ -21,9 +21,9 @@ loop-sent-preserved g c =
     let now = g.P.Post.waiting c.loop-sent.post in
     let less : n < c.args.settings.copies = omega (arith, c.loop-sent-test.true, c.copies-copies.ensures) in
     let cell = place_for_next set t k stamp v first now n c.args.settings.copies (g.P.Holder.room c.args.post.now) (g.P.Holder.room c.loop-sent.post) c.loop-sent.invariant.0 less c.requires c.loop-sent.invariant.1 in
-    let place = c.place-of-place.ensures in
-    let to = c.owner-of-to.ensures ∙ ap (λ (i : ℕ). owner_else set t i i) place in
-    let m : Message = AddItem c.owner-of-to.result (n + 1) c.place-of-place.result stamp v in
+    let place = c.place_of-place.ensures in
+    let to = c.owner_of-to.ensures ∙ ap (λ (i : ℕ). owner_else set t i i) place in
+    let m : Message = AddItem c.owner_of-to.result (n + 1) c.place_of-place.result stamp v in
     let is : m ≡ addition set t k stamp v (n + 1) = λ j. AddItem (to j) (n + 1) (place j) stamp v in (
       sent_more set t k stamp v first now (g.P.Post.waiting c.put.new.self) n m c.loop-sent.invariant.0 (c.put.ensures.after ∙ cond-false _ _ _ cell) is,
       c.put.ensures.size ∙ c.loop-sent.invariant.1,

@@ -4,7 +4,7 @@ use Rattle.arithmetic.specs.Ways.{along}
 use Rattle.tables.specs.Tables.{candidates}
 use Rattle.tables.proofs.Walks.{search_more, search_skip, search_all}
 use Rattle.tables.proofs.searches.nearest.Goals as goal
-use Rattle.tables.proofs.searches.nearest.Goals.{then-is-candidate, else-is-candidate}
+use Rattle.tables.proofs.searches.nearest.Goals.{then-is_candidate, else-is_candidate}
 
 pub loop-peer-preserved : goal.loop-peer-preserved
 loop-peer-preserved c =
@@ -14,9 +14,9 @@ loop-peer-preserved c =
     let apart = c.args.apart in
     let best = c.loop-peer.best in
     let left : Option ℕ → Option ℕ = λ b. least_from key b (candidates apart (drop (i + 1) xs)) in
-    elim c.if-is-candidate.branch [
-      | then-is-candidate w ↦ ap left (w.best-is ∙ w.nearer-best.ensures) ∙ search_more xs i key apart best c.loop-peer-test.true (sym c.is-candidate.ensures ∙ w.if-is-candidate.true) ∙ c.loop-peer.invariant
-      | else-is-candidate w ↦ ap left w.best-is ∙ search_skip xs i key apart best c.loop-peer-test.true (sym c.is-candidate.ensures ∙ w.if-is-candidate.false) ∙ c.loop-peer.invariant
+    elim c.if-is_candidate.branch [
+      | then-is_candidate w ↦ ap left (w.best-is ∙ w.nearer-best.ensures) ∙ search_more xs i key apart best c.loop-peer-test.true (sym c.is_candidate.ensures ∙ w.if-is_candidate.true) ∙ c.loop-peer.invariant
+      | else-is_candidate w ↦ ap left w.best-is ∙ search_skip xs i key apart best c.loop-peer-test.true (sym c.is_candidate.ensures ∙ w.if-is_candidate.false) ∙ c.loop-peer.invariant
     ]
 
 pub returns : goal.returns

@@ -8,15 +8,15 @@ pub invariant-of-self : goal.invariant-of-self
 invariant-of-self c =
     let s = c.args.self.now in
     let h = held_in s.tray in
-    let there = tested h c.args.at c.find.result c.is-some.result _ s.inside c.find.ensures c.is-some.ensures c.if-is-some.true in
+    let there = tested h c.args.at c.find.result c.is_some.result _ s.inside c.find.ensures c.is_some.ensures c.if-is_some.true in
     let done = put_over h (held_in c.keep.new.self) c.args.at c.args.entry s.kept s.tidy s.inside s.counted there c.keep.ensures.after in
     (done.stays.1.tidy, (done.stays.1.inside, (done.kept, tt)))
 
-pub returns-then-is-some : goal.returns-then-is-some
-returns-then-is-some c =
+pub returns-then-is_some : goal.returns-then-is_some
+returns-then-is_some c =
     let s = c.args.self.now in
     let h = held_in s.tray in
-    let there = tested h c.args.at c.find.result c.is-some.result _ s.inside c.find.ensures c.is-some.ensures c.if-is-some.true in
+    let there = tested h c.args.at c.find.result c.is_some.result _ s.inside c.find.ensures c.is_some.ensures c.if-is_some.true in
     let done = put_over h (held_in c.keep.new.self) c.args.at c.args.entry s.kept s.tidy s.inside s.counted there c.keep.ensures.after in
     record {
       value = done.value;
@@ -31,7 +31,7 @@ pub returns-then-self-size : goal.returns-then-self-size
 returns-then-self-size c =
     let s = c.args.self.now in
     let h = held_in s.tray in
-    let absent = tested h c.args.at c.find.result c.is-some.result _ s.inside c.find.ensures c.is-some.ensures c.if-is-some.false in
+    let absent = tested h c.args.at c.find.result c.is_some.result _ s.inside c.find.ensures c.is_some.ensures c.if-is_some.false in
     let done = put_refused h c.args.at c.args.entry s.kept s.tidy s.inside s.counted absent (omega arith) in
     record {
       value = done.value;
@@ -46,7 +46,7 @@ pub invariant-of-self-2 : goal.invariant-of-self-2
 invariant-of-self-2 c =
     let s = c.args.self.now in
     let h = held_in s.tray in
-    let absent = tested h c.args.at c.find.result c.is-some.result _ s.inside c.find.ensures c.is-some.ensures c.if-is-some.false in
+    let absent = tested h c.args.at c.find.result c.is_some.result _ s.inside c.find.ensures c.is_some.ensures c.if-is_some.false in
     let done = put_new h (held_in c.keep-2.new.self) c.args.at c.args.entry s.kept s.tidy s.inside s.counted absent (omega arith) c.keep-2.ensures.after in
     (done.stays.1.tidy, (done.stays.1.inside, (done.kept, tt)))
 
@@ -54,7 +54,7 @@ pub returns : goal.returns
 returns c =
     let s = c.args.self.now in
     let h = held_in s.tray in
-    let absent = tested h c.args.at c.find.result c.is-some.result _ s.inside c.find.ensures c.is-some.ensures c.if-is-some.false in
+    let absent = tested h c.args.at c.find.result c.is_some.result _ s.inside c.find.ensures c.is_some.ensures c.if-is_some.false in
     let done = put_new h (held_in c.keep-2.new.self) c.args.at c.args.entry s.kept s.tidy s.inside s.counted absent (omega arith) c.keep-2.ensures.after in
     record {
       value = done.value;

@@ -4,26 +4,26 @@ use Rattle.log_shelves.specs.Held.{held_in}
 use Rattle.log_shelves.proofs.Changes.{tested, found_is, some_counted, take_some, take_nothing}
 use Rattle.log_shelves.proofs.shelving.LogShelfShelf.take.Goals as goal
 
-pub overflow-sub-self : goal.overflow-sub-self
-overflow-sub-self c =
+pub overflow_sub-self : goal.overflow_sub-self
+overflow_sub-self c =
     let s = c.args.self.now in
     let h = held_in s.tray in
-    let there = tested h c.args.at c.find-entry.result c.is-some.result _ s.inside c.find-entry.ensures c.is-some.ensures c.if-is-some.true in
+    let there = tested h c.args.at c.find-entry.result c.is_some.result _ s.inside c.find-entry.ensures c.is_some.ensures c.if-is_some.true in
     some_counted h c.args.at s.kept s.counted there
 
 pub invariant-of-self : goal.invariant-of-self
 invariant-of-self c =
     let s = c.args.self.now in
     let h = held_in s.tray in
-    let there = tested h c.args.at c.find-entry.result c.is-some.result _ s.inside c.find-entry.ensures c.is-some.ensures c.if-is-some.true in
+    let there = tested h c.args.at c.find-entry.result c.is_some.result _ s.inside c.find-entry.ensures c.is_some.ensures c.if-is_some.true in
     let done = take_some h (held_in c.lose.new.self) c.args.at s.kept s.tidy s.inside s.counted there c.lose.ensures.after in
     (done.stays.1.tidy, (done.stays.1.inside, (done.kept, tt)))
 
-pub returns-then-is-some : goal.returns-then-is-some
-returns-then-is-some c =
+pub returns-then-is_some : goal.returns-then-is_some
+returns-then-is_some c =
     let s = c.args.self.now in
     let h = held_in s.tray in
-    let there = tested h c.args.at c.find-entry.result c.is-some.result _ s.inside c.find-entry.ensures c.is-some.ensures c.if-is-some.true in
+    let there = tested h c.args.at c.find-entry.result c.is_some.result _ s.inside c.find-entry.ensures c.is_some.ensures c.if-is_some.true in
     let done = take_some h (held_in c.lose.new.self) c.args.at s.kept s.tidy s.inside s.counted there c.lose.ensures.after in
     record {
       value = found_is h c.args.at c.find-entry.result s.inside c.find-entry.ensures;
@@ -34,11 +34,11 @@ returns-then-is-some c =
       same = ground_stays _ _ _ _ c.lose.ensures.same done.stays.1.beyond;
     }
 
-pub returns-else-is-some : goal.returns-else-is-some
-returns-else-is-some c =
+pub returns-else-is_some : goal.returns-else-is_some
+returns-else-is_some c =
     let s = c.args.self.now in
     let h = held_in s.tray in
-    let absent = tested h c.args.at c.find-entry.result c.is-some.result _ s.inside c.find-entry.ensures c.is-some.ensures c.if-is-some.false in
+    let absent = tested h c.args.at c.find-entry.result c.is_some.result _ s.inside c.find-entry.ensures c.is_some.ensures c.if-is_some.false in
     let done = take_nothing h c.args.at s.kept s.tidy s.inside s.counted absent in
     record {
       value = found_is h c.args.at c.find-entry.result s.inside c.find-entry.ensures;

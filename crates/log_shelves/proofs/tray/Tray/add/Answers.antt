@@ -11,6 +11,6 @@ returns-then-used-size c =
     let h = held_in s in
     let less : s.used < places_in h = omega arith in
     record {
-      after = ap (λ t. held t (s.used + 1)) (c.write.ensures ∙ ap (λ t. written h.bytes (18 * s.used) t) c.line-bytes-form.ensures) ∙ sym (cond-true (ltb s.used (places_in h)) _ h (lt-ltb s.used (places_in h) less));
+      after = ap (λ t. held t (s.used + 1)) (c.write.ensures ∙ ap (λ t. written h.bytes (18 * s.used) t) c.line_bytes-form.ensures) ∙ sym (cond-true (ltb s.used (places_in h)) _ h (lt-ltb s.used (places_in h) less));
       same = refl {a = s.bytes.ghost_name};
     }

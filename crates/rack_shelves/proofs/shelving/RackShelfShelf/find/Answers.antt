@@ -8,7 +8,7 @@ pub returns-then-place-copies : goal.returns-then-place-copies
 returns-then-place-copies c =
     let parts = parts_of c.args.self.now.rack in
     record {
-      value = find_read parts.used c.in-use-copies.result.now c.args.at c.position-of-place.result _ c.in-use-copies.ensures c.position-of-place.ensures c.if-place-copies.true;
+      value = find_read parts.used c.in_use-copies.result.now c.args.at c.position_of-place.result _ c.in_use-copies.ensures c.position_of-place.ensures c.if-place-copies.true;
       kept = sym (length_from_records parts.used c.args.self.now.apart);
     }
 
@@ -16,6 +16,6 @@ pub returns-else-place-copies : goal.returns-else-place-copies
 returns-else-place-copies c =
     let parts = parts_of c.args.self.now.rack in
     record {
-      value = find_not_read parts.used c.in-use-copies.result.now c.args.at c.position-of-place.result c.in-use-copies.ensures c.position-of-place.ensures c.if-place-copies.false;
+      value = find_not_read parts.used c.in_use-copies.result.now c.args.at c.position_of-place.result c.in_use-copies.ensures c.position_of-place.ensures c.if-place-copies.false;
       kept = sym (length_from_records parts.used c.args.self.now.apart);
     }

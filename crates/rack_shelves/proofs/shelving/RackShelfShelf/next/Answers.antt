@@ -8,6 +8,6 @@ pub returns : goal.returns
 returns c =
     let parts = parts_of c.args.self.now.rack in
     record {
-      value = c.first-in-range.ensures ∙ (ap (λ t. first_in_range t c.args.peer c.args.low c.args.high) c.in-use.ensures ∙ sym (next_from_records parts.used c.args.peer c.args.low c.args.high c.args.self.now.apart));
+      value = c.first_in_range.ensures ∙ (ap (λ t. first_in_range t c.args.peer c.args.low c.args.high) c.in_use.ensures ∙ sym (next_from_records parts.used c.args.peer c.args.low c.args.high c.args.self.now.apart));
       kept = sym (length_from_records parts.used c.args.self.now.apart);
     }

@@ -36,9 +36,9 @@ returns-in-Some g c =
     let x = c.in-Some.giver in
     let between = c.in-Some.ensures in
     let next = (both_some (predecessor set.size (members s.table) p) (successor set.size (members s.table) p) a x between).1 in
-    let room = with_state_length x Giving s.table c.set-state.ensures (join_room set s p c.requires) in
+    let room = with_state_length x Giving s.table c.set_state.ensures (join_room set s p c.requires) in
     let place = join_place set s p c.requires x next in
-    let table = c.push-in-Some.ensures.after ∙ cond-false _ _ _ room ∙ ap (λ (t : List Peer). t ++ peer p (Filling x a p) ∷ []) c.set-state.ensures in
+    let table = c.push-in-Some.ensures.after ∙ cond-false _ _ _ room ∙ ap (λ (t : List Peer). t ++ peer p (Filling x a p) ∷ []) c.set_state.ensures in
     let post = c.put.ensures.after ∙ cond-false _ _ _ place in
     record {
       became = (λ j. with_post (post j) (with_table (table j) s)) ∙ sym (join_between set s p a x between);

@@ -10,8 +10,8 @@ use Rattle.ring.specs.Views.{viewed, sizes}
 use Rattle.ring.proofs.Itemings.{lookup_accepted}
 use Rattle.ring.proofs.ring.Ring.ask.Goals as goal
 
-pub overflow-add-self : goal.overflow-add-self
-overflow-add-self g c =
+pub overflow_add-self : goal.overflow_add-self
+overflow_add-self g c =
     let r = c.args.self.now in
     let set = sizes g.S.Holder.room g.P.Holder.room r in
     let s = viewed g.S.Shelf.meaning g.P.Post.waiting r in
@@ -25,8 +25,8 @@ returns g c =
     let set = sizes g.S.Holder.room g.P.Holder.room r in
     let s = viewed g.S.Shelf.meaning g.P.Post.waiting r in
     let told = lookup_accepted set s c.args.item c.args.replica c.requires in
-    let place = c.place-of-place.ensures in
-    let to = c.owner-of-to.ensures ∙ ap (λ (i : ℕ). owner_else set s.table i i) place in
+    let place = c.place_of-place.ensures in
+    let to = c.owner_of-to.ensures ∙ ap (λ (i : ℕ). owner_else set s.table i i) place in
     let questions = c.push.ensures.after ∙ cond-false _ _ _ told.more_open in
     let post = c.put.ensures.after ∙ cond-false _ _ _ told.place in
     let open-now = s.questions ++ question s.number Waiting ∷ [] in

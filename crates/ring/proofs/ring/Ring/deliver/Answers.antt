@@ -18,7 +18,7 @@ receive-requires g c =
     let set = sizes g.S.Holder.room g.P.Holder.room r in
     let s = viewed g.S.Shelf.meaning g.P.Post.waiting r in
     let there = c.in-Ok.ensures.value in (
-      place_again s.post (g.P.Post.waiting c.take.new.self) c.args.n c.in-Ok.message set.slots (g.P.Holder.room c.take.new.self) (g.P.Holder.held r.post.now) there.1 c.take.ensures.after c.message-at.ensures.kept (g.P.Holder.within r.post.now) c.take.ensures.size,
+      place_again s.post (g.P.Post.waiting c.take.new.self) c.args.n c.in-Ok.message set.slots (g.P.Holder.room c.take.new.self) (g.P.Holder.held r.post.now) there.1 c.take.ensures.after c.message_at.ensures.kept (g.P.Holder.within r.post.now) c.take.ensures.size,
       cramped_taken set s (g.P.Holder.room c.take.new.self) (g.P.Post.waiting c.take.new.self) c.in-Ok.message ∙ not_cramped set s c.args.n c.in-Ok.message there.1 there.0,
     )
 

@@ -31,7 +31,7 @@ returns-in-Some g c =
     let p = c.args.id in
     let a = c.in-Some.start in
     let x = c.in-Some.filler in
-    let table = c.set-state-in-Some.ensures ∙ ap (with_state x (Filling p a p)) c.set-state.ensures in
+    let table = c.set_state-in-Some.ensures ∙ ap (with_state x (Filling p a p)) c.set_state.ensures in
     let post = c.put.ensures.after ∙ cond-false _ _ _ (leave_place set s p c.requires) in
     record {
       became = (λ j. with_post (post j) (with_table (table j) s)) ∙ sym (leave_between set s p a x c.in-Some.ensures);

@@ -16,10 +16,10 @@ returns g c =
     let r = c.args.self.now in
     let set = sizes g.S.Holder.room g.P.Holder.room r in
     let s = viewed g.S.Shelf.meaning g.P.Post.waiting r in
-    performs_accepted g.S.Shelf.meaning g.S.Holder.room g.S.Shelf.cells g.S.Shelf.after g.S.Holder.frame g.P.Post.waiting g.P.Holder.room g.P.Holder.frame (Insert c.args.item c.args.value) r c.send-copies.new.self (Inserted r.stamp) (inserted set s c.args.item c.args.value) [] (sym c.in-default.ensures) refl refl c.send-copies.ensures
+    performs_accepted g.S.Shelf.meaning g.S.Holder.room g.S.Shelf.cells g.S.Shelf.after g.S.Holder.frame g.P.Post.waiting g.P.Holder.room g.P.Holder.frame (Insert c.args.item c.args.value) r c.send_copies.new.self (Inserted r.stamp) (inserted set s c.args.item c.args.value) [] (sym c.in-default.ensures) refl refl c.send_copies.ensures
 
-pub overflow-cast-item : goal.overflow-cast-item
-overflow-cast-item g c =
+pub overflow_cast-item : goal.overflow_cast-item
+overflow_cast-item g c =
     let r = c.args.self.now in
     let set = sizes g.S.Holder.room g.P.Holder.room r in
     let s = viewed g.S.Shelf.meaning g.P.Post.waiting r in

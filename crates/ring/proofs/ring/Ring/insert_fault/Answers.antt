@@ -7,13 +7,13 @@ pub returns-then-item-size : goal.returns-then-item-size
 unfolding insert_checks
 returns-then-item-size g c = grind (arith, nat_tests)
 
-pub returns-then-not-has-members : goal.returns-then-not-has-members
+pub returns-then-not-has_members : goal.returns-then-not-has_members
 unfolding insert_checks
-returns-then-not-has-members g c = grind (arith, nat_tests)
+returns-then-not-has_members g c = grind (arith, nat_tests)
 
-pub returns-then-self-gt-MOST-NUMBERS : goal.returns-then-self-gt-MOST-NUMBERS
+pub returns-then-self-gt-MOST_NUMBERS : goal.returns-then-self-gt-MOST_NUMBERS
 unfolding insert_checks
-returns-then-self-gt-MOST-NUMBERS g c = grind (arith, nat_tests)
+returns-then-self-gt-MOST_NUMBERS g c = grind (arith, nat_tests)
 
 pub returns-then-left-copies : goal.returns-then-left-copies
 unfolding insert_checks

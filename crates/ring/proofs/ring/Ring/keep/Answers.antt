@@ -10,14 +10,14 @@ use Rattle.rules.specs.Rules.{Did, did, adding}
 use Rattle.ring.specs.Views.{viewed, sizes}
 use Rattle.ring.proofs.ring.Ring.keep.Goals as goal
 
-pub returns-then-is-newer : goal.returns-then-is-newer
+pub returns-then-is_newer : goal.returns-then-is_newer
 unfolding adding
-returns-then-is-newer g c =
+returns-then-is_newer g c =
     let r = c.args.self.now in
     let set = sizes g.S.Holder.room g.P.Holder.room r in
     let s = viewed g.S.Shelf.meaning g.P.Post.waiting r in
     let at = spot c.args.to c.args.replica c.args.place in
-    let later : newer (find s.shelf at) c.args.stamp ≡ true = ap (λ o. newer o c.args.stamp) (sym c.find-there.ensures.value) ∙ sym c.if-is-newer.ensures in
+    let later : newer (find s.shelf at) c.args.stamp ≡ true = ap (λ o. newer o c.args.stamp) (sym c.find-there.ensures.value) ∙ sym c.if-is_newer.ensures in
     let rule : Bool → Did = λ t. cond t (did Older s) (did Kept (with_shelf (put s.shelf at (entry c.args.stamp c.args.value)) s)) in
     record {
       answered = sym (ap (λ (t : Bool). (rule t).answer) later);
@@ -39,7 +39,7 @@ returns g c =
     let set = sizes g.S.Holder.room g.P.Holder.room r in
     let s = viewed g.S.Shelf.meaning g.P.Post.waiting r in
     let at = spot c.args.to c.args.replica c.args.place in
-    let older : newer (find s.shelf at) c.args.stamp ≡ false = ap (λ o. newer o c.args.stamp) (sym c.find-there.ensures.value) ∙ sym c.if-is-newer.ensures in
+    let older : newer (find s.shelf at) c.args.stamp ≡ false = ap (λ o. newer o c.args.stamp) (sym c.find-there.ensures.value) ∙ sym c.if-is_newer.ensures in
     let rule : Bool → Did = λ t. cond t (did Older s) (did Kept (with_shelf (put s.shelf at (entry c.args.stamp c.args.value)) s)) in
     record {
       answered = sym (ap (λ (t : Bool). (rule t).answer) older);

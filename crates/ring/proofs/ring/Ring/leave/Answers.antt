@@ -11,8 +11,8 @@ pub returns-in-Some : goal.returns-in-Some
 returns-in-Some g c =
     performs_refused g.S.Shelf.meaning g.S.Holder.room g.S.Shelf.cells g.S.Shelf.after g.S.Holder.frame g.P.Post.waiting g.P.Holder.room g.P.Holder.frame (Leave c.args.peer) c.args.self.now c.in-Some.fault (sym c.in-Some.ensures)
 
-pub overflow-cast-peer : goal.overflow-cast-peer
-overflow-cast-peer g c =
+pub overflow_cast-peer : goal.overflow_cast-peer
+overflow_cast-peer g c =
     let r = c.args.self.now in
     let below = leave_below (sizes g.S.Holder.room g.P.Holder.room r) (viewed g.S.Shelf.meaning g.P.Post.waiting r) c.args.peer (sym c.in-default.ensures) in
     let bounded = r.settings.bounded in

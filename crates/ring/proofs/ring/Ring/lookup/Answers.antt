@@ -18,8 +18,8 @@ returns g c =
     let s = viewed g.S.Shelf.meaning g.P.Post.waiting r in
     performs_accepted g.S.Shelf.meaning g.S.Holder.room g.S.Shelf.cells g.S.Shelf.after g.S.Holder.frame g.P.Post.waiting g.P.Holder.room g.P.Holder.frame (Lookup c.args.item c.args.replica) r c.ask.new.self (Opened r.number) (opened set s c.args.item c.args.replica) [] (sym c.in-default.ensures) refl refl c.ask.ensures
 
-pub overflow-cast-item : goal.overflow-cast-item
-overflow-cast-item g c =
+pub overflow_cast-item : goal.overflow_cast-item
+overflow_cast-item g c =
     let r = c.args.self.now in
     let set = sizes g.S.Holder.room g.P.Holder.room r in
     let s = viewed g.S.Shelf.meaning g.P.Post.waiting r in
@@ -27,8 +27,8 @@ overflow-cast-item g c =
     let bounded = r.settings.bounded in
     omega arith
 
-pub overflow-cast-replica : goal.overflow-cast-replica
-overflow-cast-replica g c =
+pub overflow_cast-replica : goal.overflow_cast-replica
+overflow_cast-replica g c =
     let r = c.args.self.now in
     let set = sizes g.S.Holder.room g.P.Holder.room r in
     let s = viewed g.S.Shelf.meaning g.P.Post.waiting r in

@@ -15,17 +15,17 @@ returns-then-replica-lt1 g c = elim c.then-replica-lt1.branch [
   | then-replica-lt1-via-else-replica-lt1+then-replica-copies w ↦ grind (arith, nat_tests)
 ]
 
-pub returns-then-not-has-members : goal.returns-then-not-has-members
+pub returns-then-not-has_members : goal.returns-then-not-has_members
 unfolding lookup_checks
-returns-then-not-has-members g c = grind (arith, nat_tests)
+returns-then-not-has_members g c = grind (arith, nat_tests)
 
-pub returns-then-self-gt-MOST-NUMBERS : goal.returns-then-self-gt-MOST-NUMBERS
+pub returns-then-self-gt-MOST_NUMBERS : goal.returns-then-self-gt-MOST_NUMBERS
 unfolding lookup_checks
-returns-then-self-gt-MOST-NUMBERS g c = grind (arith, nat_tests)
+returns-then-self-gt-MOST_NUMBERS g c = grind (arith, nat_tests)
 
-pub returns-then-is-full : goal.returns-then-is-full
+pub returns-then-is_full : goal.returns-then-is_full
 unfolding lookup_checks
-returns-then-is-full g c = grind (arith, nat_tests)
+returns-then-is_full g c = grind (arith, nat_tests)
 
 pub returns : goal.returns
 unfolding lookup_checks

@@ -12,24 +12,24 @@ returns-in-None g c =
     let s = viewed g.S.Shelf.meaning g.P.Post.waiting r in
     record { value = nothing_there set s c.args.n (sym c.in-None.ensures.value); kept = c.look.ensures.kept }
 
-pub returns-then-is-cramped : goal.returns-then-is-cramped
-returns-then-is-cramped g c =
+pub returns-then-is_cramped : goal.returns-then-is_cramped
+returns-then-is_cramped g c =
     let r = c.args.self.now in
     let set = sizes g.S.Holder.room g.P.Holder.room r in
     let s = viewed g.S.Shelf.meaning g.P.Post.waiting r in
-    let left = c.saturating-sub.ensures ∙ (λ j. c.size.ensures j - c.count.ensures.value j) in
+    let left = c.saturating_sub.ensures ∙ (λ j. c.size.ensures j - c.count.ensures.value j) in
     record {
-      value = message_there set s c.args.n c.in-Some.message true (sym c.in-Some.ensures.value) (sym c.if-is-cramped.ensures) ∙ ap (λ (x : ℕ). Some (ShelfFull x)) (sym left);
+      value = message_there set s c.args.n c.in-Some.message true (sym c.in-Some.ensures.value) (sym c.if-is_cramped.ensures) ∙ ap (λ (x : ℕ). Some (ShelfFull x)) (sym left);
       kept = c.look.ensures.kept;
     }
 
-pub returns-else-is-cramped : goal.returns-else-is-cramped
-returns-else-is-cramped g c =
+pub returns-else-is_cramped : goal.returns-else-is_cramped
+returns-else-is_cramped g c =
     let r = c.args.self.now in
     let set = sizes g.S.Holder.room g.P.Holder.room r in
     let s = viewed g.S.Shelf.meaning g.P.Post.waiting r in
     let there = sym c.in-Some.ensures.value in
     record {
-      value = (message_there set s c.args.n c.in-Some.message false there (sym c.if-is-cramped.ensures), there);
+      value = (message_there set s c.args.n c.in-Some.message false there (sym c.if-is_cramped.ensures), there);
       kept = c.look.ensures.kept;
     }

@@ -8,15 +8,15 @@ use Rattle.ring.proofs.Itemings.{insert_accepted}
 use Rattle.ring.proofs.Sending.{additions_same}
 use Rattle.ring.proofs.ring.Ring.send_copies.Goals as goal
 
-pub send-additions-requires : goal.send-additions-requires
-send-additions-requires g c =
+pub send_additions-requires : goal.send_additions-requires
+send_additions-requires g c =
     let r = c.args.self.now in
     let set = sizes g.S.Holder.room g.P.Holder.room r in
     let s = viewed g.S.Shelf.meaning g.P.Post.waiting r in
     (insert_accepted set s c.args.item r.settings.kept c.requires).enough
 
-pub overflow-add-self : goal.overflow-add-self
-overflow-add-self g c =
+pub overflow_add-self : goal.overflow_add-self
+overflow_add-self g c =
     let r = c.args.self.now in
     let set = sizes g.S.Holder.room g.P.Holder.room r in
     let s = viewed g.S.Shelf.meaning g.P.Post.waiting r in
@@ -31,11 +31,11 @@ returns g c =
     let s = viewed g.S.Shelf.meaning g.P.Post.waiting r in
     let same = additions_same set.size set.copies 0 0 set.cells set.slots (peers_of r.table) c.args.item r.stamp c.args.value set.copies in
     record {
-      became = ap (λ (ps : List Message). with_stamp (s.stamp + 1) (with_post ps s)) (c.send-additions.ensures.after ∙ ap (λ (l : List Message). s.post ++ l) same);
+      became = ap (λ (ps : List Message). with_stamp (s.stamp + 1) (with_post ps s)) (c.send_additions.ensures.after ∙ ap (λ (l : List Message). s.post ++ l) same);
       remembers = refl;
-      same_sizes = ap (λ (n : ℕ). record { size = set.size; copies = set.copies; cells = set.cells; slots = n }) c.send-additions.ensures.size;
+      same_sizes = ap (λ (n : ℕ). record { size = set.size; copies = set.copies; cells = set.cells; slots = n }) c.send_additions.ensures.size;
       framed = refl;
-      backed = c.send-additions.ensures.same;
+      backed = c.send_additions.ensures.same;
       shelf_lent = refl;
       post_lent = refl;
     }

@@ -14,14 +14,14 @@ returns g c =
     let r = c.args.self.now in
     let set = sizes g.S.Holder.room g.P.Holder.room r in
     let s = viewed g.S.Shelf.meaning g.P.Post.waiting r in
-    let table = c.set-state.ensures ∙ ap (with_state c.args.filler Settled) c.release.ensures in
+    let table = c.set_state.ensures ∙ ap (with_state c.args.filler Settled) c.release.ensures in
     record {
-      answered = ap Moved c.hand-over-moved.ensures.value;
+      answered = ap Moved c.hand_over-moved.ensures.value;
       leads = record {
-        became = λ j. with_shelf (c.hand-over-moved.ensures.after j) (with_table (table j) s);
-        remembers = c.hand-over-moved.ensures.cells;
-        same_sizes = ap (λ (n : ℕ). record { size = set.size; copies = set.copies; cells = n; slots = set.slots }) c.hand-over-moved.ensures.size;
-        framed = c.hand-over-moved.ensures.same;
+        became = λ j. with_shelf (c.hand_over-moved.ensures.after j) (with_table (table j) s);
+        remembers = c.hand_over-moved.ensures.cells;
+        same_sizes = ap (λ (n : ℕ). record { size = set.size; copies = set.copies; cells = n; slots = set.slots }) c.hand_over-moved.ensures.size;
+        framed = c.hand_over-moved.ensures.same;
         backed = refl;
         shelf_lent = refl;
         post_lent = refl;
