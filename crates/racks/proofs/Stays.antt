@@ -72,8 +72,8 @@ unfolding ground
 ground_stays r s a b = ap (λ t. ground t (parts_of s).beyond) a ∙ ap (λ t. ground (place_of r) t) b
 
 -- what a struct over a rack may state of it, after a call
-pub still : {T : Type 0} (b : T) (p q : Parts T) (most : ℕ) → Stays b p q → Clean b p → size_of p ≤ most → Clean b q × ((size_of q ≤ most) × Unit {0})
-still b p q most s c h = (s.clean c, (omega (arith, s.size), tt))
+pub still : {T : Type 0} (b : T) (p q : Parts T) (most : ℕ) → Stays b p q → Clean b p → size_of p ≤ most → Clean b q × (size_of q ≤ most)
+still b p q most s c h = (s.clean c, omega (arith, s.size))
 
 -- ---- the records in use
 

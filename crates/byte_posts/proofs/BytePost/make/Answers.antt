@@ -3,10 +3,13 @@ use Rattle.byte_posts.specs.Held.{held_in}
 use Rattle.byte_posts.proofs.Stays.{stays_emptied}
 use Rattle.byte_posts.proofs.BytePost.make.Goals as goal
 
-pub invariant-of-result : goal.invariant-of-result
-invariant-of-result c =
+pub invariant_of-result : goal.invariant_of-result
+invariant_of-result c =
     let stays = stays_emptied (held c.args.memory.now 0) (held_in c.make.result) c.make.ensures.after in
-    (stays.tidy, (stays.inside, tt))
+    record {
+      tidy = stays.tidy;
+      inside = stays.inside;
+    }
 
 pub returns : goal.returns
 returns c =

@@ -5,10 +5,14 @@ use Rattle.log_shelves.specs.Held.{held_in}
 use Rattle.log_shelves.proofs.Stays.{stays_emptied}
 use Rattle.log_shelves.proofs.LogShelf.make.Goals as goal
 
-pub invariant-of-result : goal.invariant-of-result
-invariant-of-result c =
+pub invariant_of-result : goal.invariant_of-result
+invariant_of-result c =
     let stays = stays_emptied (held c.args.memory.now 0) (held_in c.make.result) c.make.ensures.after in
-    (stays.tidy, (stays.inside, (ap (λ t. length (meaning_of t)) (sym stays.is), tt)))
+    record {
+      tidy = stays.tidy;
+      inside = stays.inside;
+      counted = ap (λ t. length (meaning_of t)) (sym stays.is);
+    }
 
 pub returns : goal.returns
 returns c =

@@ -4,10 +4,13 @@ use Rattle.byte_posts.specs.Held.{held_in}
 use Rattle.byte_posts.proofs.Stays.{stays_emptied}
 use Rattle.byte_posts.proofs.posting.BytePostHolder.empty.Goals as goal
 
-pub invariant-of-self : goal.invariant-of-self
-invariant-of-self c =
+pub invariant_of-self : goal.invariant_of-self
+invariant_of-self c =
     let stays = stays_emptied (held_in c.args.self.now.tray) (held_in c.empty.new.self) c.empty.ensures.after in
-    (stays.tidy, (stays.inside, tt))
+    record {
+      tidy = stays.tidy;
+      inside = stays.inside;
+    }
 
 pub returns : goal.returns
 returns c =

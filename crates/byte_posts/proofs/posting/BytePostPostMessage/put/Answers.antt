@@ -5,11 +5,14 @@ use Rattle.byte_posts.specs.Held.{held_in}
 use Rattle.byte_posts.proofs.Stays.{stays_put, not_full, is_full, kept}
 use Rattle.byte_posts.proofs.posting.BytePostPostMessage.put.Goals as goal
 
-pub invariant-of-self : goal.invariant-of-self
-invariant-of-self c =
+pub invariant_of-self : goal.invariant_of-self
+invariant_of-self c =
     let s = c.args.self.now in
     let stays = stays_put (held_in s.tray) (held_in c.add.new.self) c.args.message s.tidy s.inside c.add.ensures.after in
-    (stays.tidy, (stays.inside, tt))
+    record {
+      tidy = stays.tidy;
+      inside = stays.inside;
+    }
 
 pub returns-then-add : goal.returns-then-add
 returns-then-add c =

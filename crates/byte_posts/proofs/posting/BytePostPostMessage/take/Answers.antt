@@ -4,11 +4,14 @@ use Rattle.byte_posts.specs.Held.{held_in}
 use Rattle.byte_posts.proofs.Stays.{stays_removed, shown_is, kept}
 use Rattle.byte_posts.proofs.posting.BytePostPostMessage.take.Goals as goal
 
-pub invariant-of-self : goal.invariant-of-self
-invariant-of-self c =
+pub invariant_of-self : goal.invariant_of-self
+invariant_of-self c =
     let s = c.args.self.now in
     let stays = stays_removed (held_in s.tray) (held_in c.remove.new.self) c.args.n s.tidy s.inside c.remove.ensures.after in
-    (stays.tidy, (stays.inside, tt))
+    record {
+      tidy = stays.tidy;
+      inside = stays.inside;
+    }
 
 pub returns : goal.returns
 returns c =

@@ -8,8 +8,8 @@ returns-then-is_empty c =
     let none = ap lines_of (none_tested c.args.self.now.rest.now c.is_empty.result c.is_empty.ensures c.if-is_empty.true) in
     (none, refl, none, refl)
 
-pub invariant-of-self-2 : goal.invariant-of-self-2
-invariant-of-self-2 c =
+pub invariant_of-self-2 : goal.invariant_of-self-2
+invariant_of-self-2 c =
     let rest = c.args.self.now.rest.now in
     let some = some_tested rest c.is_empty.result c.is_empty.ensures c.if-is_empty.false in
     let less = past_less line_end rest some in
@@ -17,7 +17,10 @@ invariant-of-self-2 c =
     let back = ap length c.cut_at.ensures.back in
     let front = ap length c.cut_at.ensures.front in
     let was = c.args.self.now.within in
-    (omega arith, (omega arith, tt))
+    record {
+      short = omega arith;
+      within = omega arith;
+    }
 
 pub returns : goal.returns
 returns c =

@@ -5,10 +5,14 @@ use Rattle.log_shelves.specs.Held.{held_in}
 use Rattle.log_shelves.proofs.Stays.{stays_emptied}
 use Rattle.log_shelves.proofs.shelving.LogShelfHolder.empty.Goals as goal
 
-pub invariant-of-self : goal.invariant-of-self
-invariant-of-self c =
+pub invariant_of-self : goal.invariant_of-self
+invariant_of-self c =
     let stays = stays_emptied (held_in c.args.self.now.tray) (held_in c.empty.new.self) c.empty.ensures.after in
-    (stays.tidy, (stays.inside, (ap (λ t. length (meaning_of t)) (sym stays.is), tt)))
+    record {
+      tidy = stays.tidy;
+      inside = stays.inside;
+      counted = ap (λ t. length (meaning_of t)) (sym stays.is);
+    }
 
 pub returns : goal.returns
 returns c =

@@ -4,13 +4,17 @@ use Rattle.log_shelves.specs.Held.{held_in}
 use Rattle.log_shelves.proofs.Changes.{tested, put_over, put_new, put_refused}
 use Rattle.log_shelves.proofs.shelving.LogShelfShelf.put.Goals as goal
 
-pub invariant-of-self : goal.invariant-of-self
-invariant-of-self c =
+pub invariant_of-self : goal.invariant_of-self
+invariant_of-self c =
     let s = c.args.self.now in
     let h = held_in s.tray in
     let there = tested h c.args.at c.find.result c.is_some.result _ s.inside c.find.ensures c.is_some.ensures c.if-is_some.true in
     let done = put_over h (held_in c.keep.new.self) c.args.at c.args.entry s.kept s.tidy s.inside s.counted there c.keep.ensures.after in
-    (done.stays.1.tidy, (done.stays.1.inside, (done.kept, tt)))
+    record {
+      tidy = done.stays.1.tidy;
+      inside = done.stays.1.inside;
+      counted = done.kept;
+    }
 
 pub returns-then-is_some : goal.returns-then-is_some
 returns-then-is_some c =
@@ -42,13 +46,17 @@ returns-then-self-size c =
       same = refl;
     }
 
-pub invariant-of-self-2 : goal.invariant-of-self-2
-invariant-of-self-2 c =
+pub invariant_of-self-2 : goal.invariant_of-self-2
+invariant_of-self-2 c =
     let s = c.args.self.now in
     let h = held_in s.tray in
     let absent = tested h c.args.at c.find.result c.is_some.result _ s.inside c.find.ensures c.is_some.ensures c.if-is_some.false in
     let done = put_new h (held_in c.keep-2.new.self) c.args.at c.args.entry s.kept s.tidy s.inside s.counted absent (omega arith) c.keep-2.ensures.after in
-    (done.stays.1.tidy, (done.stays.1.inside, (done.kept, tt)))
+    record {
+      tidy = done.stays.1.tidy;
+      inside = done.stays.1.inside;
+      counted = done.kept;
+    }
 
 pub returns : goal.returns
 returns c =

@@ -11,13 +11,17 @@ overflow_sub-self c =
     let there = tested h c.args.at c.find-entry.result c.is_some.result _ s.inside c.find-entry.ensures c.is_some.ensures c.if-is_some.true in
     some_counted h c.args.at s.kept s.counted there
 
-pub invariant-of-self : goal.invariant-of-self
-invariant-of-self c =
+pub invariant_of-self : goal.invariant_of-self
+invariant_of-self c =
     let s = c.args.self.now in
     let h = held_in s.tray in
     let there = tested h c.args.at c.find-entry.result c.is_some.result _ s.inside c.find-entry.ensures c.is_some.ensures c.if-is_some.true in
     let done = take_some h (held_in c.lose.new.self) c.args.at s.kept s.tidy s.inside s.counted there c.lose.ensures.after in
-    (done.stays.1.tidy, (done.stays.1.inside, (done.kept, tt)))
+    record {
+      tidy = done.stays.1.tidy;
+      inside = done.stays.1.inside;
+      counted = done.kept;
+    }
 
 pub returns-then-is_some : goal.returns-then-is_some
 returns-then-is_some c =

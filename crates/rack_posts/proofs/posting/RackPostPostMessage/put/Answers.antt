@@ -6,11 +6,15 @@ use Rattle.racks.specs.Racks.{parts_of}
 use Rattle.racks.proofs.Stays.{stays_added, still, ground_stays, used_added}
 use Rattle.rack_posts.proofs.posting.RackPostPostMessage.put.Goals as goal
 
-pub invariant-of-self : goal.invariant-of-self
-invariant-of-self c =
+pub invariant_of-self : goal.invariant_of-self
+invariant_of-self c =
     let old = c.args.self.now.rack in
     let new = c.add.new.self in
-    still blank_message (parts_of old) (parts_of new) 256 (stays_added blank_message (parts_of old) c.args.message (parts_of new) c.add.ensures.after) c.args.self.now.clean c.args.self.now.bounded
+    let kept = still blank_message (parts_of old) (parts_of new) 256 (stays_added blank_message (parts_of old) c.args.message (parts_of new) c.add.ensures.after) c.args.self.now.clean c.args.self.now.bounded in
+    record {
+      clean = kept.0;
+      bounded = kept.1;
+    }
 
 pub returns-then-add : goal.returns-then-add
 returns-then-add c =

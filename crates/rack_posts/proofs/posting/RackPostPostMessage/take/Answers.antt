@@ -4,11 +4,15 @@ use Rattle.racks.specs.Racks.{parts_of}
 use Rattle.racks.proofs.Stays.{stays_closed_up, still, ground_stays, used_closed_up}
 use Rattle.rack_posts.proofs.posting.RackPostPostMessage.take.Goals as goal
 
-pub invariant-of-self : goal.invariant-of-self
-invariant-of-self c =
+pub invariant_of-self : goal.invariant_of-self
+invariant_of-self c =
     let old = c.args.self.now.rack in
     let new = c.remove.new.self in
-    still blank_message (parts_of old) (parts_of new) 256 (stays_closed_up blank_message (parts_of old) c.args.n (parts_of new) c.remove.ensures.after) c.args.self.now.clean c.args.self.now.bounded
+    let kept = still blank_message (parts_of old) (parts_of new) 256 (stays_closed_up blank_message (parts_of old) c.args.n (parts_of new) c.remove.ensures.after) c.args.self.now.clean c.args.self.now.bounded in
+    record {
+      clean = kept.0;
+      bounded = kept.1;
+    }
 
 pub returns : goal.returns
 returns c =

@@ -5,11 +5,16 @@ use Rattle.racks.specs.Racks.{parts_of}
 use Rattle.racks.proofs.Stays.{stays_emptied, still, ground_stays}
 use Rattle.rack_shelves.proofs.shelving.RackShelfShelf.clear.Goals as goal
 
-pub invariant-of-self : goal.invariant-of-self
-invariant-of-self c =
+pub invariant_of-self : goal.invariant_of-self
+invariant_of-self c =
     let old = c.args.self.now.rack in
     let new = c.empty.new.self in
-    (ap (λ t. apart t.used) c.empty.ensures.after, still blank_copy (parts_of old) (parts_of new) 4096 (stays_emptied blank_copy (parts_of old) (parts_of new) c.empty.ensures.after) c.args.self.now.clean c.args.self.now.bounded)
+    let kept = still blank_copy (parts_of old) (parts_of new) 4096 (stays_emptied blank_copy (parts_of old) (parts_of new) c.empty.ensures.after) c.args.self.now.clean c.args.self.now.bounded in
+    record {
+      apart = ap (λ t. apart t.used) c.empty.ensures.after;
+      clean = kept.0;
+      bounded = kept.1;
+    }
 
 pub returns : goal.returns
 returns c =

@@ -8,8 +8,8 @@ use Rattle.racks.proofs.Stays.{stays_added, stays_overwritten, still, ground_sta
 use Rattle.rack_shelves.proofs.Changes.{put_over, put_new, put_refused, apart_over, apart_new}
 use Rattle.rack_shelves.proofs.shelving.RackShelfShelf.put.Goals as goal
 
-pub invariant-of-self : goal.invariant-of-self
-invariant-of-self c =
+pub invariant_of-self : goal.invariant_of-self
+invariant_of-self c =
     let s = c.args.self.now in
     let old = s.rack in
     let p = parts_of old in
@@ -17,17 +17,27 @@ invariant-of-self c =
     let new = c.overwrite.new.self in
     let over : parts_of new ≡ overwritten p (position p.used c.args.at) (copy c.args.at c.args.entry) = c.overwrite.ensures.after ∙ ap (λ n. overwritten p n (copy c.args.at c.args.entry)) place in
     let there : position p.used c.args.at < length p.used = omega (arith, c.used.ensures, c.if-place-used.true) in
-    (apart_over p (parts_of new) c.args.at c.args.entry s.apart there over, still blank_copy p (parts_of new) 4096 (stays_overwritten blank_copy p _ _ (parts_of new) over) s.clean s.bounded)
+    let kept = still blank_copy p (parts_of new) 4096 (stays_overwritten blank_copy p _ _ (parts_of new) over) s.clean s.bounded in
+    record {
+      apart = apart_over p (parts_of new) c.args.at c.args.entry s.apart there over;
+      clean = kept.0;
+      bounded = kept.1;
+    }
 
-pub invariant-of-self-else-place-used : goal.invariant-of-self-else-place-used
-invariant-of-self-else-place-used c =
+pub invariant_of-self-else-place-used : goal.invariant_of-self-else-place-used
+invariant_of-self-else-place-used c =
     let s = c.args.self.now in
     let old = s.rack in
     let p = parts_of old in
     let place : c.position_of-place.result ≡ position p.used c.args.at = c.position_of-place.ensures ∙ ap (λ t. position t c.args.at) c.in_use.ensures in
     let new = c.add.new.self in
     let nowhere : length p.used ≤ position p.used c.args.at = omega (arith, c.used.ensures, c.if-place-used.false) in
-    (apart_new p (parts_of new) c.args.at c.args.entry s.apart nowhere c.add.ensures.after, still blank_copy p (parts_of new) 4096 (stays_added blank_copy p _ (parts_of new) c.add.ensures.after) s.clean s.bounded)
+    let kept = still blank_copy p (parts_of new) 4096 (stays_added blank_copy p _ (parts_of new) c.add.ensures.after) s.clean s.bounded in
+    record {
+      apart = apart_new p (parts_of new) c.args.at c.args.entry s.apart nowhere c.add.ensures.after;
+      clean = kept.0;
+      bounded = kept.1;
+    }
 
 pub returns-then-place-used : goal.returns-then-place-used
 returns-then-place-used c =

@@ -8,8 +8,8 @@ use Rattle.racks.proofs.Stays.{stays_closed_up, still, ground_stays}
 use Rattle.rack_shelves.proofs.Changes.{take_done, find_taken, find_not_taken}
 use Rattle.rack_shelves.proofs.shelving.RackShelfShelf.take.Goals as goal
 
-pub invariant-of-self : goal.invariant-of-self
-invariant-of-self c =
+pub invariant_of-self : goal.invariant_of-self
+invariant_of-self c =
     let s = c.args.self.now in
     let old = s.rack in
     let p = parts_of old in
@@ -18,7 +18,12 @@ invariant-of-self c =
     let closed : parts_of new ≡ closed_up blank_copy p (position p.used c.args.at) = c.remove.ensures.after ∙ ap (closed_up blank_copy p) place in
     let done = take_done p (parts_of new) c.args.at s.apart closed in
     let stays = stays_closed_up blank_copy p _ (parts_of new) closed in
-    (done.apart, still blank_copy p (parts_of new) 4096 stays s.clean s.bounded)
+    let kept = still blank_copy p (parts_of new) 4096 stays s.clean s.bounded in
+    record {
+      apart = done.apart;
+      clean = kept.0;
+      bounded = kept.1;
+    }
 
 pub returns-in-Some : goal.returns-in-Some
 returns-in-Some c =
