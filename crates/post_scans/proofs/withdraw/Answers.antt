@@ -10,10 +10,10 @@ returns-in-Some g c = record {
   same = c.take.ensures.same;
 }
 
-pub returns-in-default : goal.returns-in-default
-returns-in-default g c = record {
-  after = none_asks c.args.number (g.P.Post.waiting c.args.post.now) 0 c.in-default.ensures.value;
-  kept = c.in-default.ensures.kept;
+pub returns-in_default : goal.returns-in_default
+returns-in_default g c = record {
+  after = none_asks c.args.number (g.P.Post.waiting c.args.post.now) 0 c.in_default.ensures.value;
+  kept = c.in_default.ensures.kept;
   size = refl;
   same = refl;
 }

@@ -14,8 +14,8 @@ returns-in-Some c =
 
 pub returns-in-None : goal.returns-in-None
 returns-in-None c =
-    six_order c.args.columns (line_of c.args.lines.now) c.count.result c.verb_of-verb.result None c.first_unreadable.result None c.count.ensures c.if-count-ne6.false (c.verb_of-verb.ensures ∙ ap verb_of c.field.ensures.text_is) c.in-None.is c.first_unreadable.ensures c.in-default.is
+    six_order c.args.columns (line_of c.args.lines.now) c.count.result c.verb_of-verb.result None c.first_unreadable.result None c.count.ensures c.if-count-ne6.false (c.verb_of-verb.ensures ∙ ap verb_of c.field.ensures.text_is) c.in-None.is c.first_unreadable.ensures c.in_default.is
 
 pub returns-in-Some-verb : goal.returns-in-Some-verb
 returns-in-Some-verb c =
-    ap Ok c.call_of.ensures ∙ six_order c.args.columns (line_of c.args.lines.now) c.count.result c.verb_of-verb.result (Some c.in-Some-verb.verb) c.first_unreadable.result None c.count.ensures c.if-count-ne6.false (c.verb_of-verb.ensures ∙ ap verb_of c.field.ensures.text_is) c.in-Some-verb.is c.first_unreadable.ensures c.in-default.is
+    ap Ok c.call_of.ensures ∙ six_order c.args.columns (line_of c.args.lines.now) c.count.result c.verb_of-verb.result (Some c.in-Some-verb.verb) c.first_unreadable.result None c.count.ensures c.if-count-ne6.false (c.verb_of-verb.ensures ∙ ap verb_of c.field.ensures.text_is) c.in-Some-verb.is c.first_unreadable.ensures c.in_default.is

@@ -16,13 +16,13 @@ use Rattle.ring.proofs.Collecting.{collect_refused, collect_open, collect_outcom
 use Rattle.ring.proofs.ring.Ring.collect.Given as given
 use Rattle.ring.proofs.ring.Ring.collect.Goals as goal
 
-pub returns-in-default : goal.returns-in-default
-returns-in-default g c =
+pub returns-in_default : goal.returns-in_default
+returns-in_default g c =
     let r = c.args.self.now in
     let set = sizes g.S.Holder.room g.P.Holder.room r in
     let s = viewed g.S.Shelf.meaning g.P.Post.waiting r in
     let q = c.args.number in
-    performs_refused g.S.Shelf.meaning g.S.Holder.room g.S.Shelf.cells g.S.Shelf.after g.S.Holder.frame g.P.Post.waiting g.P.Holder.room g.P.Holder.frame (Collect q) r NoQuestion (collect_refused set s q (sym c.in-default.ensures))
+    performs_refused g.S.Shelf.meaning g.S.Holder.room g.S.Shelf.cells g.S.Shelf.after g.S.Holder.frame g.P.Post.waiting g.P.Holder.room g.P.Holder.frame (Collect q) r NoQuestion (collect_refused set s q (sym c.in_default.ensures))
 
 pub returns-in-Waiting : goal.returns-in-Waiting
 returns-in-Waiting g c =

@@ -8,13 +8,13 @@ use Rattle.ring.specs.Views.{viewed, sizes}
 use Rattle.ring.proofs.Memberships.{leave_alone, leave_between, leave_place}
 use Rattle.ring.proofs.ring.Ring.dismiss.Goals as goal
 
-pub returns-in-default : goal.returns-in-default
-returns-in-default g c =
+pub returns-in_default : goal.returns-in_default
+returns-in_default g c =
     let r = c.args.self.now in
     let set = sizes g.S.Holder.room g.P.Holder.room r in
     let s = viewed g.S.Shelf.meaning g.P.Post.waiting r in
     record {
-      became = sym (leave_alone set s c.args.id c.in-default.ensures);
+      became = sym (leave_alone set s c.args.id c.in_default.ensures);
       remembers = refl;
       same_sizes = refl;
       framed = refl;

@@ -16,13 +16,13 @@ returns g c =
     let r = c.args.self.now in
     let set = sizes g.S.Holder.room g.P.Holder.room r in
     let s = viewed g.S.Shelf.meaning g.P.Post.waiting r in
-    performs_accepted g.S.Shelf.meaning g.S.Holder.room g.S.Shelf.cells g.S.Shelf.after g.S.Holder.frame g.P.Post.waiting g.P.Holder.room g.P.Holder.frame (Insert c.args.item c.args.value) r c.send_copies.new.self (Inserted r.stamp) (inserted set s c.args.item c.args.value) [] (sym c.in-default.ensures) refl refl c.send_copies.ensures
+    performs_accepted g.S.Shelf.meaning g.S.Holder.room g.S.Shelf.cells g.S.Shelf.after g.S.Holder.frame g.P.Post.waiting g.P.Holder.room g.P.Holder.frame (Insert c.args.item c.args.value) r c.send_copies.new.self (Inserted r.stamp) (inserted set s c.args.item c.args.value) [] (sym c.in_default.ensures) refl refl c.send_copies.ensures
 
 pub overflow_cast-item : goal.overflow_cast-item
 overflow_cast-item g c =
     let r = c.args.self.now in
     let set = sizes g.S.Holder.room g.P.Holder.room r in
     let s = viewed g.S.Shelf.meaning g.P.Post.waiting r in
-    let below = (insert_accepted set s c.args.item r.settings.kept (sym c.in-default.ensures)).below in
+    let below = (insert_accepted set s c.args.item r.settings.kept (sym c.in_default.ensures)).below in
     let bounded = r.settings.bounded in
     omega arith

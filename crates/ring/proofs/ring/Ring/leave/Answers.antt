@@ -14,11 +14,11 @@ returns-in-Some g c =
 pub overflow_cast-peer : goal.overflow_cast-peer
 overflow_cast-peer g c =
     let r = c.args.self.now in
-    let below = leave_below (sizes g.S.Holder.room g.P.Holder.room r) (viewed g.S.Shelf.meaning g.P.Post.waiting r) c.args.peer (sym c.in-default.ensures) in
+    let below = leave_below (sizes g.S.Holder.room g.P.Holder.room r) (viewed g.S.Shelf.meaning g.P.Post.waiting r) c.args.peer (sym c.in_default.ensures) in
     let bounded = r.settings.bounded in
     omega arith
 
 pub returns : goal.returns
 returns g c =
     let r = c.args.self.now in
-    performs_accepted g.S.Shelf.meaning g.S.Holder.room g.S.Shelf.cells g.S.Shelf.after g.S.Holder.frame g.P.Post.waiting g.P.Holder.room g.P.Holder.frame (Leave c.args.peer) r c.dismiss.new.self Done (gone_from (sizes g.S.Holder.room g.P.Holder.room r) (viewed g.S.Shelf.meaning g.P.Post.waiting r) c.args.peer) [] (sym c.in-default.ensures) refl refl c.dismiss.ensures
+    performs_accepted g.S.Shelf.meaning g.S.Holder.room g.S.Shelf.cells g.S.Shelf.after g.S.Holder.frame g.P.Post.waiting g.P.Holder.room g.P.Holder.frame (Leave c.args.peer) r c.dismiss.new.self Done (gone_from (sizes g.S.Holder.room g.P.Holder.room r) (viewed g.S.Shelf.meaning g.P.Post.waiting r) c.args.peer) [] (sym c.in_default.ensures) refl refl c.dismiss.ensures

@@ -16,14 +16,14 @@ returns g c =
     let r = c.args.self.now in
     let set = sizes g.S.Holder.room g.P.Holder.room r in
     let s = viewed g.S.Shelf.meaning g.P.Post.waiting r in
-    performs_accepted g.S.Shelf.meaning g.S.Holder.room g.S.Shelf.cells g.S.Shelf.after g.S.Holder.frame g.P.Post.waiting g.P.Holder.room g.P.Holder.frame (Lookup c.args.item c.args.replica) r c.ask.new.self (Opened r.number) (opened set s c.args.item c.args.replica) [] (sym c.in-default.ensures) refl refl c.ask.ensures
+    performs_accepted g.S.Shelf.meaning g.S.Holder.room g.S.Shelf.cells g.S.Shelf.after g.S.Holder.frame g.P.Post.waiting g.P.Holder.room g.P.Holder.frame (Lookup c.args.item c.args.replica) r c.ask.new.self (Opened r.number) (opened set s c.args.item c.args.replica) [] (sym c.in_default.ensures) refl refl c.ask.ensures
 
 pub overflow_cast-item : goal.overflow_cast-item
 overflow_cast-item g c =
     let r = c.args.self.now in
     let set = sizes g.S.Holder.room g.P.Holder.room r in
     let s = viewed g.S.Shelf.meaning g.P.Post.waiting r in
-    let below = (lookup_accepted set s c.args.item c.args.replica (sym c.in-default.ensures)).below in
+    let below = (lookup_accepted set s c.args.item c.args.replica (sym c.in_default.ensures)).below in
     let bounded = r.settings.bounded in
     omega arith
 
@@ -32,6 +32,6 @@ overflow_cast-replica g c =
     let r = c.args.self.now in
     let set = sizes g.S.Holder.room g.P.Holder.room r in
     let s = viewed g.S.Shelf.meaning g.P.Post.waiting r in
-    let few = (lookup_accepted set s c.args.item c.args.replica (sym c.in-default.ensures)).is_in_range in
+    let few = (lookup_accepted set s c.args.item c.args.replica (sym c.in_default.ensures)).is_in_range in
     let bounded = r.settings.few in
     omega arith

@@ -16,7 +16,7 @@ returns-else-owner-to g c =
     let set = sizes g.S.Holder.room g.P.Holder.room r in
     let s = viewed g.S.Shelf.meaning g.P.Post.waiting r in
     let m = c.args.message in
-    let w = c.in-default-AddItem in
+    let w = c.in_default-AddItem in
     let own = c.owner_or-owner.ensures in
     acts_same g.S.Shelf.meaning g.S.Holder.room g.S.Shelf.cells g.S.Shelf.after g.S.Holder.frame g.P.Post.waiting g.P.Holder.room g.P.Holder.frame (adding s w.to w.replica w.place w.stamp w.value) (received set s m) (cond (newer (find s.shelf (spot w.to w.replica w.place)) w.stamp) [] (Put (spot w.to w.replica w.place) (entry w.stamp w.value) ∷ [])) (delivery_edits set s (Some m)) r c.keep.new.self c.keep.result
     (add_received set s m w.to w.replica w.place w.stamp w.value c.owner_or-owner.result w.is-1 own c.if-owner-to.false)
@@ -29,9 +29,9 @@ returns-else-to-owner g c =
     let set = sizes g.S.Holder.room g.P.Holder.room r in
     let s = viewed g.S.Shelf.meaning g.P.Post.waiting r in
     let m = c.args.message in
-    let w = c.in-default-GetItem in
+    let w = c.in_default-GetItem in
     let state = c.state_of-state.ensures ∙ ap (state_of s.table) c.addressee.ensures in
     acts_same g.S.Shelf.meaning g.S.Holder.room g.S.Shelf.cells g.S.Shelf.after g.S.Holder.frame g.P.Post.waiting g.P.Holder.room g.P.Holder.frame (answering set s c.state_of-state.result w.to w.replica w.place w.question) (received set s m) [] (delivery_edits set s (Some m)) r c.reply.new.self c.reply.result
-    (get_received set s m w.to w.replica w.place w.question c.owner_or-owner-in-default-GetItem.result c.state_of-state.result w.is-1 c.owner_or-owner-in-default-GetItem.ensures (sym c.if-to-owner.false) state)
+    (get_received set s m w.to w.replica w.place w.question c.owner_or-owner-in_default-GetItem.result c.state_of-state.result w.is-1 c.owner_or-owner-in_default-GetItem.ensures (sym c.if-to-owner.false) state)
     (get_edits set s m w.to w.replica w.place w.question w.is-1)
     c.reply.ensures
