@@ -1,6 +1,6 @@
 /* The two questions that a C program asks of the result ring.
  *
- * Link with the static library that `rt staticlib questions` writes to target/staticlib/libquestions.a.
+ * Link with the static library that `bash c/run` puts at target/staticlib/libquestions.a (the crate questions_c).
  * An answer is an identifier, below 65,536. A refusal is RESULT_RING_REFUSED plus its number:
  *   4  the size is not 1 to 65,536
  *   5  the copies are not 1 to 8, or do not divide the size

@@ -29,8 +29,7 @@ fn place_answer(size: u64, copies: u64, item: u64, replica: u64) -> Result<u16, 
 }
 
 // The place of an item for a replica, counted from 1.
-#[unsafe(no_mangle)]
-pub extern "C" fn result_ring_place(size: u64, copies: u64, item: u64, replica: u64) -> u64
+pub fn result_ring_place(size: u64, copies: u64, item: u64, replica: u64) -> u64
     ensures { result ≡ coded (answered (size_check size ∷ (copies_check size copies ∷ (identifier_check size item ∷ (replica_check copies replica ∷ [])))) (place size copies item replica)) }
 {
     code(place_answer(size, copies, item, replica))
@@ -73,8 +72,7 @@ fn owner_answer(size: u64, identifier: u64, members: &[u8]) -> Result<u16, Fault
 }
 
 // The member that owns an identifier. Members are two bytes each, the high byte first; one may stand there twice.
-#[unsafe(no_mangle)]
-pub extern "C" fn result_ring_owner(size: u64, identifier: u64, members: &[u8]) -> u64
+pub fn result_ring_owner(size: u64, identifier: u64, members: &[u8]) -> u64
     ensures value { result ≡ coded (owner_answer size identifier members.now) }
     ensures nearest { result < refusal_base → Owner size (λ q. Member q (members_of members.now)) identifier result }
 {
