@@ -8,7 +8,7 @@ use Rattle.std.proofs.lemmas.Bool.{cond-true, cond-false, cond_both, and_from, a
 use Rattle.messages.specs.declared.Message.{Message}
 use Rattle.layouts.specs.Layout.{encoded, decoded}
 use Rattle.layouts.proofs.Forms.{decoded_back}
-use Rattle.rows.specs.Bytes.{zeros, written, closed_up}
+use Rattle.rows.specs.Bytes.{written, closed_up}
 use Rattle.rows.specs.Rows.{beyond_in}
 use Rattle.rows.proofs.Laid.{Laid, from_whole, read_laid, length_rows, laid_written, laid_closed, laid_cleared, row_at}
 use Rattle.byte_posts.specs.Trays.{message_form, Held, held, places_in, messages_in, Tidy, emptied, added, ok_in, shown, without}

@@ -1,10 +1,10 @@
 -- The laws of distances on a ring. Assumes nothing.
-use Rattle.std.proofs.Common.{◌≡◌, ℕ, ◌+◌, ◌-◌, ◌*◌, ◌/◌, ◌%◌, ◌<◌, ◌≤◌, Bool, true, false, cond, ltb, leb, ◌⊎◌, sym, refl, ap, ◌∙◌, subst, inl, inr, ⊎_elim, mod-eq_of_lt, arith}
+use Rattle.std.proofs.Common.{◌≡◌, ℕ, ◌+◌, ◌-◌, ◌%◌, ◌<◌, ◌≤◌, ◌⊎◌, sym, ◌∙◌, ⊎_elim, mod-eq_of_lt, arith}
 use native.Mathlib.Nat.{mod-eq-sub-mod}
 use Rattle.std.proofs.lemmas.Bool.Decides.{nat_tests}
 use Rattle.std.proofs.lemmas.Bool.{cases_lt}
-use Rattle.circle.specs.Circle.{distance, InArc, in_arc}
-use Rattle.circle.specs.Laws.{DistanceLaws, DistanceLawsHold}
+use Rattle.circle.specs.Circle.{distance, InArc}
+use Rattle.circle.specs.Laws.{DistanceLawsHold}
 
 -- the two cases of a distance
 pub distance_cases : (n s i : ℕ) → ((s ≤ i) × (distance n s i ≡ i - s)) ⊎ ((i < s) × (distance n s i ≡ i + n - s))

@@ -1,8 +1,8 @@
 -- The laws of owners among any set of members. Assumes nothing.
-use Rattle.std.proofs.Common.{◌≡◌, ℕ, ◌+◌, ◌-◌, ◌<◌, ◌≤◌, true, ◌⊎◌, sym, refl, ap, ◌∙◌, subst, inl, inr, ⊎_elim, arith}
-use Rattle.std.proofs.lemmas.Bool.{cases_lt, cases_eq}
+use Rattle.std.proofs.Common.{◌≡◌, ℕ, ◌+◌, ◌<◌, ◌≤◌, true, refl, ap, subst, inl, inr, ⊎_elim, arith}
+use Rattle.std.proofs.lemmas.Bool.{cases_eq}
 use Rattle.circle.specs.Circle.{distance, InArc}
-use Rattle.circle.specs.Owners.{Least, Other, With, Owner, Successor, Predecessor}
+use Rattle.circle.specs.Owners.{Other, With, Owner, Successor, Predecessor}
 use Rattle.circle.specs.Laws.{OwnerLaws, OwnerLawsHold}
 use Rattle.circle.proofs.Distances.{distance_same_zero, distance_injective, arc_first, arc_through, first_arc, outside_arc}
 

@@ -1,5 +1,5 @@
 -- The laws of an item's places. Assumes nothing.
-use Rattle.std.proofs.Common.{◌≡◌, ℕ, ◌+◌, ◌-◌, ◌*◌, ◌/◌, ◌%◌, ◌<◌, ◌≤◌, ◌⊎◌, sym, refl, ap, ◌∙◌, subst, inl, inr, ⊎_elim, add-zero, add_assoc, mul-le-mul_right, mod-lt, mod-eq_of_lt, add-mul, one-mul, mul-zero, zero-mul, arith}
+use Rattle.std.proofs.Common.{◌≡◌, ℕ, ◌+◌, ◌-◌, ◌*◌, ◌/◌, ◌%◌, ◌<◌, ◌≤◌, ◌⊎◌, sym, ap, ◌∙◌, inl, inr, ⊎_elim, add-zero, add_assoc, mul-le-mul_right, mod-lt, mod-eq_of_lt, add-mul, one-mul, mul-zero, zero-mul, arith}
 use native.Mathlib.Nat.{mod-eq-sub-mod, mod-add-mod, add-mod_right, div-add-mod}
 use Rattle.std.proofs.lemmas.Bool.{cases_lt}
 use Rattle.circle.specs.Circle.{place, item_at}

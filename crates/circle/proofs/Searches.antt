@@ -1,9 +1,8 @@
 -- The search for the nearest member finds the one that is nearest. Assumes nothing.
-use Rattle.std.proofs.Common.{◌≡◌, ℕ, ◌+◌, ◌-◌, ◌<◌, ◌≤◌, Bool, true, false, cond, eqb, ltb, leb, ◌⊎◌, List, [], ◌∷◌, ◌++◌, Some, None, Option, sym, refl, ap, ◌∙◌, subst, inl, inr, ⊎_elim, arith}
-use Rattle.std.proofs.lemmas.Bool.{cases_lt, cases_eq, cases_Bool, eqb-true, eqb-false, eq-eqb, ne_eqb, lt-ltb, le-ltb, both_ways, and_parts, and_from, ltb-true, leb-true, le-leb}
-use Rattle.std.proofs.lemmas.Bool.Decides.{nat_tests}
+use Rattle.std.proofs.Common.{◌≡◌, ℕ, ◌<◌, ◌≤◌, Bool, true, false, cond, eqb, ltb, leb, ◌⊎◌, List, [], ◌∷◌, ◌++◌, Some, None, sym, refl, ap, ◌∙◌, inl, inr, ⊎_elim, arith}
+use Rattle.std.proofs.lemmas.Bool.{cases_lt, eqb-true, eqb-false, lt-ltb, le-ltb, both_ways, and_parts, and_from, ltb-true, leb-true, le-leb}
 use Rattle.circle.specs.Circle.{distance, InArc, in_arc}
-use Rattle.circle.specs.Owners.{Member, others, Least, Other, With, Owner, Successor, Predecessor, better, least_from, owner, successor, predecessor}
+use Rattle.circle.specs.Owners.{Member, others, Least, Other, With, Owner, Successor, Predecessor, least_from, owner, successor, predecessor}
 use Rattle.circle.specs.Laws.{OwnerLaws, ListLaws, ListLawsHold}
 use Rattle.circle.proofs.Distances.{distance_injective}
 use Rattle.circle.proofs.Owners.{owner_laws_at}

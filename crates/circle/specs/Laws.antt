@@ -1,5 +1,5 @@
 -- What holds of distances, places and owners, for later layers to cite. Assumes nothing.
-use Rattle.std.specs.Prelude.{◌≡◌, ℕ, ◌+◌, ◌-◌, ◌*◌, ◌/◌, ◌%◌, ◌<◌, ◌≤◌, Bool, true, false, cond, ◌⊎◌, List, [], ◌∷◌, ◌++◌, Some, None, Option, ◌≢◌}
+use Rattle.std.specs.Prelude.{◌≡◌, ℕ, ◌+◌, ◌-◌, ◌/◌, ◌%◌, ◌<◌, ◌≤◌, Bool, true, cond, ◌⊎◌, List, [], ◌∷◌, ◌++◌, Some, None, ◌≢◌}
 use Rattle.circle.specs.Circle.{distance, InArc, in_arc, place, item_at}
 use Rattle.circle.specs.Owners.{Member, others, Other, With, Owner, Successor, Predecessor, owner, successor, predecessor}
 

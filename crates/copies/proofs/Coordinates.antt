@@ -1,7 +1,6 @@
 -- The order of coordinates: one of `before a b`, `same a b` and `before b a` holds, and `before` goes through.
-use Rattle.std.proofs.Common.{◌≡◌, ℕ, Bool, true, false, cond, ◌&&◌, ◌||◌, eqb, ltb, leb, ◌⊎◌, sym, refl, ap, ◌∙◌, inl, inr, arith}
+use Rattle.std.proofs.Common.{◌≡◌, ℕ, true, false, ap, ◌∙◌, arith}
 use Rattle.std.proofs.lemmas.Bool.Decides.{nat_tests}
-use Rattle.std.proofs.lemmas.Bool.{and_parts, eqb-true}
 use Rattle.copies.specs.declared.Coordinate.{Coordinate}
 use Rattle.copies.specs.Copies.{same, before}
 

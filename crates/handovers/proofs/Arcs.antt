@@ -1,14 +1,13 @@
 -- An arc is one range of places, or two where it passes 0. Assumes nothing.
-use Rattle.std.proofs.Common.{◌≡◌, ℕ, ◌+◌, ◌-◌, ◌<◌, ◌≤◌, Bool, true, false, cond, ◌&&◌, eqb, ltb, leb, List, [], ◌∷◌, ◌++◌, length, fold, filter, sym, refl, ap, ◌∙◌, subst, ⊎_elim, append_assoc, arith, length-append}
+use Rattle.std.proofs.Common.{◌≡◌, ℕ, ◌+◌, ◌-◌, ◌<◌, ◌≤◌, Bool, true, false, cond, ◌&&◌, eqb, ltb, leb, List, [], ◌∷◌, ◌++◌, length, fold, sym, refl, ap, ◌∙◌, append_assoc, arith, length-append}
 use Rattle.std.specs.List.{AllByRecursion as All}
 use Rattle.std.proofs.ByRecursion.{All-weaker, kept_by_passes}
-use Rattle.std.proofs.lemmas.List.{nil_from_length}
-use Rattle.std.proofs.lemmas.Bool.{eq-eqb, ne_eqb, lt-ltb, le-ltb, and_right, and_parts, and_left, lt-leb, leb-true, cond-true, cond-false, both_ways}
+use Rattle.std.proofs.lemmas.Bool.{eq-eqb, ne_eqb, lt-ltb, le-ltb, and_right, and_parts, lt-leb, leb-true, cond-true, cond-false, both_ways}
 use Rattle.std.proofs.lemmas.Bool.Decides.{nat_tests}
 use Rattle.copies.specs.declared.CopyRecord.{CopyRecord}
 use Rattle.copies.specs.declared.Edit.{Edit}
-use Rattle.copies.specs.Copies.{copy, remove, in_range}
-use Rattle.rules.specs.Handover.{spot, moved, owed, handed, handover}
+use Rattle.copies.specs.Copies.{in_range}
+use Rattle.rules.specs.Handover.{moved, owed, handed, handover}
 use Rattle.rules.specs.Edits.{move_edits, moves_edits, handover_edits}
 use Rattle.handovers.proofs.Ranges.{left, folded_append, in_range_by_place, in_range_other, kept_by_remove, kept_by_moved}
 

@@ -1,6 +1,5 @@
 -- When a put is refused, and what a position of a post shows. Assumes nothing.
-use Rattle.std.specs.Prelude.{ℕ, Bool, cond, not, ◌&&◌, List, length, is_some, Ok, Err, Result, nat_le}
-use Rattle.faults.specs.declared.Fault.{Fault}
+use Rattle.std.specs.Prelude.{ℕ, Bool, not, ◌&&◌, List, length, is_some, nat_le}
 use Rattle.copies.specs.declared.Coordinate.{Coordinate}
 use Rattle.copies.specs.declared.CopyRecord.{CopyRecord}
 use Rattle.copies.specs.Copies.{find}

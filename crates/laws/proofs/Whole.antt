@@ -10,7 +10,7 @@ use Rattle.rules.specs.declared.Answer.TheVariants.{Found, Nothing}
 use Rattle.rules.specs.State.{Settings, Lawful, State, empty, reply_to}
 use Rattle.rules.specs.Refusals.{refusal}
 use Rattle.rules.specs.Rules.{step, decided, collecting}
-use Rattle.rules.specs.Runs.{after, answer, waiting, accepted_of}
+use Rattle.rules.specs.Runs.{after, waiting, accepted_of}
 use Rattle.rules.specs.Laws.{Replicated, Fresh, Drains, Laws, EveryRunKeepsItsLaws}
 use Rattle.laws.proofs.Invariant.{Invariant}
 use Rattle.laws.proofs.Promises.{kept_there, kept_only}

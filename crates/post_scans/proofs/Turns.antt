@@ -1,11 +1,11 @@
 -- One turn of a walk over waiting messages, and its end; what taking a question's message leaves. Assumes nothing.
-use Rattle.std.proofs.Common.{◌≡◌, ℕ, suc, ◌+◌, ◌<◌, ◌≤◌, Bool, true, false, cond, List, [], ◌∷◌, ◌++◌, length, get_or, take, drop, Some, None, Option, sym, refl, ap, ◌∙◌, subst, arith}
+use Rattle.std.proofs.Common.{◌≡◌, ℕ, suc, ◌+◌, ◌<◌, ◌≤◌, true, false, cond, List, [], ◌∷◌, length, drop, Some, None, sym, refl, ap, ◌∙◌, arith}
 use Rattle.std.proofs.lemmas.List.{at_drop_more, at_drop_all}
 use Rattle.std.proofs.lemmas.Option.{slice_get-get_or}
 use Rattle.std.specs.List.{remove, slice_get}
 use Rattle.messages.specs.declared.Message.{Message}
 use Rattle.messages.specs.declared.Message.TheVariants.{RetrieveItems}
-use Rattle.rules.specs.State.{is_add, asks, adds, unasked}
+use Rattle.rules.specs.State.{asks, adds, unasked}
 use Rattle.post_scans.specs.Scans.{is_addition, asks_for, asked_from}
 
 -- what a read beyond the end is taken for

@@ -1,7 +1,6 @@
 -- An answer that is no refusal is the nearest member. Assumes nothing.
-use Rattle.std.proofs.Common.{◌≡◌, ℕ, ◌+◌, ◌<◌, ◌≤◌, Bool, true, false, cond, List, [], ◌∷◌, Some, None, Ok, Err, Option, Result, sym, refl, ap, ◌∙◌, subst, arith}
+use Rattle.std.proofs.Common.{◌≡◌, ℕ, ◌<◌, Bool, true, false, cond, List, [], ◌∷◌, Some, None, Err, Option, Result, sym, refl, ap, ◌∙◌, subst, arith}
 use Rattle.faults.specs.declared.Fault.{Fault}
-use Rattle.faults.specs.Faults.{number_of}
 use Rattle.faults.specs.Checks.{unless}
 use Rattle.circle.specs.Owners.{Member, Owner, owner}
 use Rattle.circle.proofs.Searches.{owner_is}

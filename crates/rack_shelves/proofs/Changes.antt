@@ -1,5 +1,5 @@
 -- What the shelf's changes make of the memory and of its meaning.
-use Rattle.std.proofs.Common.{◌≡◌, ℕ, ◌+◌, ◌-◌, ◌<◌, ◌≤◌, Bool, true, false, cond, not, ◌&&◌, ltb, leb, ◌⊎◌, List, [], ◌∷◌, ◌++◌, length, get_or, set, is_some, Some, None, Ok, Err, Option, Result, sym, refl, ap, ◌∙◌, subst, inl, inr, ⊎_elim, arith}
+use Rattle.std.proofs.Common.{◌≡◌, ℕ, ◌<◌, ◌≤◌, true, false, cond, not, ◌&&◌, ltb, leb, List, [], ◌∷◌, ◌++◌, length, get_or, is_some, Some, None, Ok, Err, Result, sym, ap, ◌∙◌, subst, ⊎_elim, arith}
 use Rattle.std.specs.List.{remove as removed, slice_get}
 use Rattle.std.proofs.lemmas.Option.{slice_get-get_or, slice_get_past}
 use Rattle.std.proofs.lemmas.Bool.{cond-true, cond-false, cases_Bool, and_left, lt-ltb, le-ltb}
@@ -8,13 +8,13 @@ use Rattle.faults.specs.declared.Fault.TheVariants.{ShelfFull}
 use Rattle.copies.specs.declared.Coordinate.{Coordinate}
 use Rattle.copies.specs.declared.Entry.{Entry}
 use Rattle.copies.specs.declared.CopyRecord.{CopyRecord}
-use Rattle.copies.specs.declared.Edit.TheVariants.{Put, Take, Empty}
+use Rattle.copies.specs.declared.Edit.TheVariants.{Put}
 use Rattle.copies.specs.Copies.{copy, find, put, remove, from_records, apart, position}
 use Rattle.copies.proofs.Facts.{some_none, some_same, remove_absent}
 use Rattle.copies.proofs.Records.{find_cases, find_from_records, length_from_records, position_absent, position_within, position_held, from_records_push, from_records_set, from_records_removed, apart_push, apart_set, apart_removed}
 use Rattle.holders.specs.Holders.{no_cell}
 use Rattle.racks.specs.Blanks.{blank_copy}
-use Rattle.racks.specs.Parts.{Parts, size_of, full, Clean, added, overwritten, closed_up, emptied}
+use Rattle.racks.specs.Parts.{Parts, size_of, full, added, overwritten, closed_up}
 use Rattle.rack_shelves.specs.Cells.{edited}
 
 -- ---- presence, by position

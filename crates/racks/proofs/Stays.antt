@@ -1,6 +1,6 @@
 -- What every call on a rack keeps: its size, what lies beyond, and that places not in use hold the blank.
 use base.Fml.{GName}
-use Rattle.std.proofs.Common.{◌≡◌, ℕ, suc, ◌+◌, ◌-◌, ◌<◌, ◌≤◌, Bool, true, false, cond, ltb, leb, List, [], ◌∷◌, ◌++◌, length, drop, set, replicate, sym, refl, ap, ◌∙◌, subst, arith}
+use Rattle.std.proofs.Common.{◌≡◌, ℕ, suc, ◌+◌, ◌-◌, ◌≤◌, Bool, true, false, cond, ltb, List, [], ◌∷◌, ◌++◌, length, drop, replicate, sym, refl, ap, ◌∙◌, subst, arith}
 use Rattle.std.specs.List.{remove}
 use Rattle.std.proofs.lemmas.List.{append-nil, take_all, drop_all, length-drop, length-replicate, length_push, length-set, drop-replicate}
 use Rattle.std.proofs.lemmas.List.Edits.{length-remove}

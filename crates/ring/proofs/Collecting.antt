@@ -1,5 +1,5 @@
 -- What a question's reply tells of its collect. Assumes nothing.
-use Rattle.std.proofs.Common.{◌≡◌, ℕ, Bool, cond, not, is_some, Some, None, Option, sym, refl, ap, ◌∙◌}
+use Rattle.std.proofs.Common.{◌≡◌, ℕ, cond, not, is_some, Some, None, Option, ap}
 use Rattle.faults.specs.declared.Fault.TheVariants.{NoQuestion}
 use Rattle.rules.specs.declared.Reply.{Reply}
 use Rattle.rules.specs.declared.Call.TheVariants.{Collect}

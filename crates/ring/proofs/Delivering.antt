@@ -1,11 +1,10 @@
 -- What a position of the post tells of its delivery. Assumes nothing.
-use Rattle.std.proofs.Common.{◌≡◌, ℕ, zero, suc, ◌+◌, ◌-◌, ◌<◌, ◌≤◌, Bool, true, false, cond, leb, List, [], ◌∷◌, length, Some, None, Option, sym, refl, ap, ◌∙◌, subst, arith}
+use Rattle.std.proofs.Common.{◌≡◌, ℕ, zero, suc, ◌+◌, ◌-◌, ◌<◌, ◌≤◌, Bool, true, false, cond, leb, List, [], ◌∷◌, length, Some, None, Option, sym, refl, ap, ◌∙◌, arith}
 use Rattle.std.specs.List.{slice_get, remove}
 use Rattle.std.proofs.lemmas.Bool.{le-leb, lt-leb, eq-eqb, cond-true}
 use Rattle.faults.specs.declared.Fault.{Fault}
 use Rattle.faults.specs.declared.Fault.TheVariants.{ShelfFull, NoMessage}
 use Rattle.faults.specs.Checks.{first_fault}
-use Rattle.copies.specs.declared.Edit.{Edit}
 use Rattle.copies.specs.declared.Edit.TheVariants.{Put}
 use Rattle.copies.specs.Copies.{find}
 use Rattle.messages.specs.declared.Message.{Message}

@@ -1,11 +1,11 @@
 -- What it tells that an insert or a lookup is accepted. Assumes nothing.
-use Rattle.std.proofs.Common.{◌≡◌, ℕ, ◌+◌, ◌-◌, ◌<◌, ◌≤◌, Bool, true, false, ◌||◌, ltb, leb, length, None, sym, refl, ap, ◌∙◌, arith}
+use Rattle.std.proofs.Common.{◌≡◌, ℕ, ◌+◌, ◌<◌, ◌≤◌, false, ltb, leb, length, None, arith}
 use Rattle.std.proofs.lemmas.Bool.{leb-false, ltb-false, or_parts}
 use Rattle.faults.specs.Checks.{first_fault}
 use Rattle.rules.specs.State.{Settings, State}
 use Rattle.rules.specs.Refusals.{most_open, most_numbers, free_places, insert_checks, lookup_checks}
 use Rattle.holders.specs.Holders.{no_place}
-use Rattle.ring.proofs.Performing.{Passed, all_passed}
+use Rattle.ring.proofs.Performing.{all_passed}
 use Rattle.ring.proofs.Memberships.{has_place}
 
 module _ (set : Settings) (s : State) (k : ℕ) where

@@ -1,19 +1,16 @@
 -- What an accepted join or leave makes of the table and the post. Assumes nothing.
-use Rattle.std.proofs.Common.{◌≡◌, ℕ, suc, ◌-◌, ◌<◌, ◌≤◌, Bool, true, false, cond, ◌&&◌, ltb, leb, List, [], ◌∷◌, ◌++◌, length, is_some, Some, None, Option, sym, refl, ap, ◌∙◌, subst, arith}
-use Rattle.std.proofs.lemmas.Bool.{leb-false, ltb-false, lt-leb, cond-false}
+use Rattle.std.proofs.Common.{◌≡◌, ℕ, suc, ◌-◌, ◌<◌, ◌≤◌, false, ◌&&◌, ltb, leb, List, [], ◌∷◌, length, is_some, Some, None, Option, sym, refl, ap, ◌∙◌, arith}
+use Rattle.std.proofs.lemmas.Bool.{leb-false, ltb-false, lt-leb}
 use Rattle.faults.specs.Checks.{first_fault}
-use Rattle.messages.specs.declared.Message.{Message}
-use Rattle.messages.specs.declared.Message.TheVariants.{RetrieveItems, Replicate}
 use Rattle.rules.specs.declared.Peer.{Peer}
 use Rattle.rules.specs.declared.PeerState.{PeerState}
-use Rattle.rules.specs.declared.PeerState.TheVariants.{Settled, Filling, Giving, Leaving}
-use Rattle.rules.specs.State.{Settings, State, peer, members, with_state}
-use Rattle.rules.specs.Refusals.{most_peers, free_places, successor_in, join_checks, leave_checks}
+use Rattle.rules.specs.State.{Settings, State, members, with_state}
+use Rattle.rules.specs.Refusals.{most_peers, free_places, join_checks, leave_checks}
 use Rattle.rules.specs.Rules.{joined, gone}
 use Rattle.circle.specs.Owners.{predecessor, successor}
 use Rattle.holders.specs.Holders.{no_place}
 use Rattle.ring.specs.Views.{both, joined_to, gone_from}
-use Rattle.ring.proofs.Performing.{Passed, all_passed}
+use Rattle.ring.proofs.Performing.{all_passed}
 
 -- ---- a post with enough free places takes a message
 

@@ -1,5 +1,5 @@
 -- Records laid one after another: what is read from them, and what each write makes of them. One text for every width.
-use Rattle.std.proofs.Common.{◌≡◌, ℕ, zero, suc, ◌+◌, ◌-◌, ◌*◌, ◌/◌, ◌<◌, ◌≤◌, ◌&&◌, leb, ◌⊎◌, List, [], ◌∷◌, ◌++◌, length, get_or, take, drop, Some, sym, refl, ap, ◌∙◌, ⊎_elim, append_assoc, mod-lt, mul-le-mul_left, mul-zero, mul-suc, mul-add, arith}
+use Rattle.std.proofs.Common.{◌≡◌, ℕ, zero, suc, ◌+◌, ◌-◌, ◌*◌, ◌/◌, ◌<◌, ◌≤◌, ◌&&◌, leb, List, [], ◌∷◌, ◌++◌, length, get_or, take, drop, Some, sym, refl, ap, ◌∙◌, ⊎_elim, append_assoc, mod-lt, mul-le-mul_left, mul-zero, mul-suc, mul-add, arith}
 use native.Mathlib.Nat.{mul-add-div, div-eq_of_lt, div-add-mod}
 use Rattle.std.specs.List.{slice_get, flat_map, remove, between}
 use Rattle.std.proofs.lemmas.List.{length-append, length-replicate, length-drop, length-take-le, take_at, drop_at, drop-drop, flat_map_more, replicate-append-replicate, length_push}

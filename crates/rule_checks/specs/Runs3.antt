@@ -1,6 +1,6 @@
 -- Random runs of calls, with their answers and what is left. Made by scripts/model.py; not to be edited.
 use Rattle.std.specs.Prelude.{List, [], ◌∷◌}
-use Rattle.faults.specs.declared.Fault.TheVariants.{Identifier, Replica, OnTable, TableFull, NotMember, NoMember, OnlyMember, NotSettled, QuestionsOpen, ShelfFull, PostFull, NoMessage, NoQuestion}
+use Rattle.faults.specs.declared.Fault.TheVariants.{Identifier, Replica, OnTable, NotMember, NoMember, OnlyMember, NotSettled, ShelfFull, PostFull, NoMessage, NoQuestion}
 use Rattle.messages.specs.declared.Message.TheVariants.{RetrieveItems, Replicate, AddItem, GetItem}
 use Rattle.rules.specs.declared.PeerState.TheVariants.{Settled, Filling, Giving, Leaving}
 use Rattle.rules.specs.declared.Call.TheVariants.{Join, Leave, Insert, Lookup, Deliver, Collect}

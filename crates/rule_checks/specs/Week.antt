@@ -1,10 +1,10 @@
 -- A worked week, a full table and the most open questions. Made by scripts/model.py; not to be edited.
 use Rattle.std.specs.Prelude.{List, [], ◌∷◌}
-use Rattle.faults.specs.declared.Fault.TheVariants.{Identifier, Replica, OnTable, TableFull, NotMember, NoMember, OnlyMember, NotSettled, QuestionsOpen, ShelfFull, PostFull, NoMessage, NoQuestion}
-use Rattle.messages.specs.declared.Message.TheVariants.{RetrieveItems, Replicate, AddItem, GetItem}
-use Rattle.rules.specs.declared.PeerState.TheVariants.{Settled, Filling, Giving, Leaving}
+use Rattle.faults.specs.declared.Fault.TheVariants.{Identifier, Replica, TableFull, NotMember, OnlyMember, NotSettled, QuestionsOpen, NoMessage, NoQuestion}
+use Rattle.messages.specs.declared.Message.TheVariants.{GetItem}
+use Rattle.rules.specs.declared.PeerState.TheVariants.{Settled}
 use Rattle.rules.specs.declared.Call.TheVariants.{Join, Leave, Insert, Lookup, Deliver, Collect}
-use Rattle.rules.specs.declared.Answer.TheVariants.{Done, Inserted, Opened, Asked, Moved, Sent, Kept, Older, Answered, Found, Nothing, NotYet, Withdrawn, Refused}
+use Rattle.rules.specs.declared.Answer.TheVariants.{Done, Inserted, Opened, Asked, Moved, Sent, Kept, Answered, Found, Nothing, NotYet, Withdrawn, Refused}
 use Rattle.rules.specs.State.{peer}
 use Rattle.rule_checks.specs.Worked.{Worked, worked, settings, kept}
 

@@ -1,5 +1,5 @@
 -- The edits of the shelf that a call makes, in order. Assumes nothing.
-use Rattle.std.specs.Prelude.{ℕ, Bool, true, false, cond, List, [], ◌∷◌, ◌++◌, Some, None, Option}
+use Rattle.std.specs.Prelude.{ℕ, cond, List, [], ◌∷◌, ◌++◌, Some, None, Option}
 use Rattle.copies.specs.declared.CopyRecord.{CopyRecord}
 use Rattle.copies.specs.declared.Edit.{Edit}
 use Rattle.copies.specs.declared.Edit.TheVariants.{Put, Take}

@@ -1,5 +1,5 @@
 -- One order more: what is left of a run gives the whole of it. Assumes nothing.
-use Rattle.std.proofs.Common.{◌≡◌, ℕ, ◌+◌, ◌<◌, ◌≤◌, List, [], ◌∷◌, ◌++◌, map, length, get_or, take, drop, set, Some, fold, sym, refl, ap, ◌∙◌, subst, append_assoc, append-nil, arith}
+use Rattle.std.proofs.Common.{◌≡◌, ℕ, ◌+◌, ◌<◌, ◌≤◌, List, [], ◌∷◌, ◌++◌, map, length, get_or, take, drop, set, Some, fold, sym, refl, ap, ◌∙◌, append_assoc, append-nil, arith}
 use lib.ListN.{length-map}
 use Rattle.std.specs.List.{slice_get}
 use Rattle.std.proofs.lemmas.List.{at_drop_more, at_drop_all, take_more_set, get_or-map, map-set, set-get_or, take_all}
@@ -14,7 +14,7 @@ use Rattle.rules.specs.Runs.{from}
 use Rattle.rules.specs.Edits.{call_edits}
 use Rattle.handovers.proofs.Ranges.{folded_append}
 use Rattle.ring.specs.declared.ring.Ring.{Ring}
-use Rattle.ring.specs.Views.{viewed, sizes, Leads, Performs}
+use Rattle.ring.specs.Views.{viewed, sizes, Performs}
 use Rattle.runs.specs.declared.Order.{Order}
 use Rattle.runs.specs.Orders.{call_of, answer_of, answers_from, edits_from, Runs}
 

@@ -1,5 +1,5 @@
 -- A list of orders, run on a ring: what its answers are, and what becomes of the ring and of the shelf's memory. Assumes nothing.
-use Rattle.std.specs.Prelude.{◌≡◌, ℕ, List, [], ◌∷◌, ◌++◌, map, fold}
+use Rattle.std.specs.Prelude.{◌≡◌, ℕ, List, [], ◌∷◌, ◌++◌, map}
 use Rattle.copies.specs.declared.CopyRecord.{CopyRecord}
 use Rattle.copies.specs.declared.Edit.{Edit}
 use Rattle.messages.specs.declared.Message.{Message}

@@ -1,5 +1,5 @@
 -- What is promised of a whole run, from an empty ring on. Assumes nothing.
-use Rattle.std.specs.Prelude.{◌≡◌, ℕ, List, [], ◌∷◌, ◌++◌, map, length, Some, fold}
+use Rattle.std.specs.Prelude.{◌≡◌, ℕ, List, ◌∷◌, ◌++◌, map, length, Some, fold}
 use Rattle.std.specs.List.{slice_get}
 use Rattle.copies.specs.declared.CopyRecord.{CopyRecord}
 use Rattle.copies.specs.declared.Edit.{Edit}

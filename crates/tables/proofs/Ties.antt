@@ -1,5 +1,5 @@
 -- The words of the rules are those of any row of entries, at the key of a peer or a question. Assumes nothing.
-use Rattle.std.proofs.Common.{◌≡◌, ℕ, Bool, true, false, cond, not, ◌&&◌, eqb, List, [], ◌∷◌, Some, None, Option, sym, refl, ap, ◌∙◌}
+use Rattle.std.proofs.Common.{◌≡◌, ℕ, true, false, cond, not, ◌&&◌, eqb, List, [], ◌∷◌, Some, None, refl, ap}
 use Rattle.circle.specs.Owners.{others}
 use Rattle.rules.specs.declared.Peer.{Peer}
 use Rattle.rules.specs.declared.PeerState.{PeerState}
@@ -7,7 +7,7 @@ use Rattle.rules.specs.declared.Question.{Question}
 use Rattle.rules.specs.declared.Reply.{Reply}
 use Rattle.rules.specs.State.{peer, is_leaving, members, state_of, with_state, without, question, reply_to, with_reply, closed}
 use Rattle.rosters.specs.Rows.{first_with, replaced_with, dropped_with}
-use Rattle.tables.specs.Tables.{state_in, reply_in, candidate, candidates}
+use Rattle.tables.specs.Tables.{state_in, reply_in, candidates}
 
 -- ---- the table
 

@@ -3,7 +3,6 @@ use Rattle.std.proofs.lemmas.List.{nil_from_length}
 use Rattle.rules.specs.Handover.{handed}
 use Rattle.handovers.proofs.Arcs.{handed_self, handed_forward, handed_nowhere, handed_empty, handover_by, edits_by, left_both, round_left, round_value, round_after, round_cells}
 use Rattle.handovers.proofs.Ranges.{left}
-use Rattle.handovers.proofs.hand_over.Given as given
 use Rattle.handovers.proofs.hand_over.Goals as goal
 use Rattle.handovers.proofs.hand_over.Goals.{then-copies-eq0-via-then-copies-eq0, then-copies-eq0-via-else-copies-eq0+then-filler-giver, then-copies-eq0-via-else-copies-eq0+else-filler-giver+then-start-end}
 

@@ -1,4 +1,4 @@
-use Rattle.std.proofs.Common.{◌≡◌, length, fold, sym, refl, ap}
+use Rattle.std.proofs.Common.{length, fold, sym, refl, ap}
 use Rattle.rules.specs.Handover.{moved}
 use Rattle.rules.specs.Edits.{moves_edits}
 use Rattle.handovers.proofs.Arcs.{left_none}

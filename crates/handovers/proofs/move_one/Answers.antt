@@ -1,9 +1,8 @@
-use Rattle.std.proofs.Common.{◌≡◌, Bool, true, false, cond, List, sym, ap, ◌∙◌}
+use Rattle.std.proofs.Common.{◌≡◌, true, false, List, sym, ap, ◌∙◌}
 use Rattle.std.proofs.lemmas.Bool.{cond-false}
 use Rattle.copies.specs.declared.CopyRecord.{CopyRecord}
-use Rattle.copies.specs.declared.Edit.TheVariants.{Put, Take}
+use Rattle.copies.specs.declared.Edit.TheVariants.{Put}
 use Rattle.copies.specs.Copies.{find, put}
-use Rattle.holders.specs.Holders.{no_cell}
 use Rattle.rules.specs.Handover.{newer}
 use Rattle.handovers.proofs.Moving.{goal as goal', cell_again, moved_stays, edits_stays, moved_puts, edits_puts}
 use Rattle.handovers.proofs.move_one.Goals as goal

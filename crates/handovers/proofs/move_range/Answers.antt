@@ -1,7 +1,6 @@
-use Rattle.std.proofs.Common.{◌≡◌, sym, refl, ◌∙◌, arith}
+use Rattle.std.proofs.Common.{sym, refl, ◌∙◌, arith}
 use Rattle.copies.proofs.Facts.{next_found}
 use Rattle.handovers.proofs.Turns.{sofar_none, sofar_more, sofar_less, count_more, count_all, after_all, cells_all}
-use Rattle.handovers.proofs.move_range.Given as given
 use Rattle.handovers.proofs.move_range.Goals as goal
 
 pub loop-next-init : goal.loop-next-init

@@ -1,4 +1,4 @@
-use Rattle.std.proofs.Common.{◌≡◌, ◌<◌, ◌≤◌, true, false, length, sym, ap, ◌∙◌, arith}
+use Rattle.std.proofs.Common.{◌<◌, ◌≤◌, length, sym, ap, ◌∙◌, arith}
 use Rattle.post_scans.specs.Scans.{is_addition}
 use Rattle.post_scans.proofs.Turns.{adds_more, adds_skip, adds_all}
 use Rattle.post_scans.proofs.adds_waiting.Goals as goal

@@ -1,4 +1,4 @@
-use Rattle.std.proofs.Common.{◌≡◌, ◌<◌, ◌≤◌, length, sym, ap, ◌∙◌, arith}
+use Rattle.std.proofs.Common.{◌<◌, ◌≤◌, length, sym, ap, ◌∙◌, arith}
 use Rattle.post_scans.specs.Scans.{asks_for}
 use Rattle.post_scans.proofs.Turns.{asked_here, asked_more, asked_all}
 use Rattle.post_scans.proofs.position_of_question.Goals as goal

@@ -1,4 +1,3 @@
-use Rattle.std.proofs.Common.{◌≡◌, length}
 use Rattle.runs.proofs.Turns.{Sofar}
 use Rattle.runs.proofs.perform_all.Given as goal
 

@@ -1,12 +1,10 @@
-use Rattle.std.proofs.Common.{◌≡◌, ℕ, List, [], ◌∷◌, ◌++◌, map, length, fold, sym, refl, ap, ◌∙◌, subst}
+use Rattle.std.proofs.Common.{◌≡◌, List, map, length, fold, ap, ◌∙◌}
 use Rattle.std.specs.List.{slice_get}
-use Rattle.copies.specs.declared.Edit.TheVariants.{Empty}
-use Rattle.rules.specs.declared.Call.{Call}
 use Rattle.rules.specs.declared.Answer.{Answer}
-use Rattle.rules.specs.State.{Settings, State, empty}
+use Rattle.rules.specs.State.{empty}
 use Rattle.rules.specs.Runs.{from}
 use Rattle.laws.proofs.Whole.{every_run_keeps_its_laws}
-use Rattle.ring.specs.Views.{viewed, sizes, settled}
+use Rattle.ring.specs.Views.{settled}
 use Rattle.runs.specs.Orders.{call_of, answer_of, answers_from, edits_from}
 use Rattle.runs.proofs.Turns.{answer_at}
 use Rattle.runs.proofs.run.Goals as goal

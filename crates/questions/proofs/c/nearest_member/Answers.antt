@@ -1,4 +1,4 @@
-use Rattle.std.proofs.Common.{◌≡◌, ℕ, ◌-◌, List, length, take, drop, Option, sym, ap, ◌∙◌, rules}
+use Rattle.std.proofs.Common.{ℕ, ◌-◌, List, length, take, drop, Option, sym, ap, ◌∙◌, rules}
 use Rattle.circle.specs.Circle.{distance}
 use Rattle.circle.specs.Owners.{least_from, owner}
 use Rattle.questions.specs.Members.{members_of}

@@ -1,4 +1,4 @@
-use Rattle.std.proofs.Common.{◌≡◌, ◌+◌, ◌-◌, ◌<◌, ◌≤◌, min, not, length, take, set, sym, refl, ap, ◌∙◌, arith, rules}
+use Rattle.std.proofs.Common.{◌<◌, ◌≤◌, min, not, length, sym, refl, ap, arith, rules}
 use Rattle.racks.proofs.Cuts.{size_cut, full_cut, not_full_cut, cut_added, cut_not_added}
 use Rattle.racks.proofs.Rack.add.Goals as goal
 

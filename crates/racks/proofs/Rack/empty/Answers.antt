@@ -1,4 +1,4 @@
-use Rattle.std.proofs.Common.{◌≡◌, ◌+◌, ◌-◌, ◌<◌, ◌≤◌, min, length, take, set, sym, refl, ap, ◌∙◌, arith, rules}
+use Rattle.std.proofs.Common.{min, length, refl, ap, ◌∙◌}
 use Rattle.racks.proofs.Cuts.{cut_emptied}
 use Rattle.racks.specs.Parts.{cut, emptied}
 use Rattle.racks.proofs.Rack.empty.Goals as goal

@@ -1,4 +1,4 @@
-use Rattle.std.proofs.Common.{◌≡◌, ◌+◌, ◌-◌, ◌<◌, ◌≤◌, min, length, take, set, sym, refl, ap, ◌∙◌, arith, rules}
+use Rattle.std.proofs.Common.{arith}
 use Rattle.racks.proofs.Cuts.{length_used, nth_cut, nth_cut_past}
 use Rattle.racks.proofs.Rack.get.Goals as goal
 

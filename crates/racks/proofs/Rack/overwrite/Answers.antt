@@ -1,4 +1,4 @@
-use Rattle.std.proofs.Common.{◌≡◌, ◌+◌, ◌-◌, ◌<◌, ◌≤◌, min, length, take, set, sym, refl, ap, ◌∙◌, arith, rules}
+use Rattle.std.proofs.Common.{refl, arith, rules}
 use Rattle.racks.proofs.Cuts.{length_used, cut_overwritten, cut_not_overwritten}
 use Rattle.racks.proofs.Rack.overwrite.Goals as goal
 

@@ -1,4 +1,4 @@
-use Rattle.std.proofs.Common.{◌≡◌, ◌+◌, ◌-◌, ◌<◌, ◌≤◌, min, true, ◌&&◌, ltb, leb, length, take, set, sym, refl, ap, ◌∙◌, arith, rules}
+use Rattle.std.proofs.Common.{◌≡◌, ◌-◌, true, ◌&&◌, ltb, leb, length, refl, ap, ◌∙◌, arith}
 use Rattle.racks.proofs.Cuts.{length_used, cut_closed, cut_not_closed}
 use Rattle.std.proofs.lemmas.Bool.{cond-true, and_from, lt-ltb, le-leb}
 use Rattle.racks.specs.Parts.{cut, closed_up}

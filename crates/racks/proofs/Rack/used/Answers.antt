@@ -1,4 +1,4 @@
-use Rattle.std.proofs.Common.{◌≡◌, ◌+◌, ◌-◌, ◌<◌, ◌≤◌, min, length, sym, refl, ap, ◌∙◌, arith}
+use Rattle.std.proofs.Common.{min, sym, ap, ◌∙◌}
 use Rattle.racks.proofs.Cuts.{size_cut, length_used}
 use Rattle.racks.proofs.Rack.used.Goals as goal
 

@@ -1,8 +1,8 @@
-use Rattle.std.proofs.Common.{◌≡◌, ℕ, ◌+◌, ◌<◌, ◌++◌, sym, refl, ap, ◌∙◌, arith}
+use Rattle.std.proofs.Common.{◌≡◌, ℕ, ◌+◌, ◌<◌, ◌++◌, ap, ◌∙◌, arith}
 use Rattle.std.proofs.lemmas.Bool.{cond-false}
 use Rattle.messages.specs.declared.Message.{Message}
 use Rattle.messages.specs.declared.Message.TheVariants.{AddItem}
-use Rattle.rules.specs.State.{owner_else, place_of}
+use Rattle.rules.specs.State.{owner_else}
 use Rattle.rules.specs.Rules.{additions}
 use Rattle.tables.specs.Tables.{peers_of}
 use Rattle.ring.specs.Views.{sized}

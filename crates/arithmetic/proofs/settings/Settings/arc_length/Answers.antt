@@ -1,4 +1,4 @@
-use Rattle.std.proofs.Common.{sym, ap, ◌∙◌}
+use Rattle.std.proofs.Common.{ap, ◌∙◌}
 use Rattle.circle.specs.Owners.{arc_length, share_after}
 use Rattle.arithmetic.proofs.settings.Settings.arc_length.Goals as goal
 

@@ -1,4 +1,4 @@
-use Rattle.std.proofs.Common.{ap, arith}
+use Rattle.std.proofs.Common.{arith}
 use Rattle.std.proofs.lemmas.Bool.Decides.{nat_tests}
 use Rattle.circle.specs.Circle.{in_arc}
 use Rattle.arithmetic.proofs.settings.Settings.in_arc.Goals as goal

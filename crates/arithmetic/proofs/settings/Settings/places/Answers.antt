@@ -1,5 +1,4 @@
-use Rattle.std.proofs.Common.{◌≡◌, ℕ, Bool, cond, leb, List, replicate, Some, None, Ok, Option, sym, refl, ap, ◌∙◌}
-use Rattle.faults.specs.declared.Fault.{Fault}
+use Rattle.std.proofs.Common.{◌≡◌, cond, leb, replicate, Some, None, Ok, sym, refl, ap, ◌∙◌}
 use Rattle.faults.specs.declared.Fault.TheVariants.{Identifier}
 use Rattle.faults.proofs.Refusals.{refused_one, passed_one}
 use Rattle.circle.specs.Circle.{most_copies}

@@ -1,4 +1,4 @@
-use Rattle.std.proofs.Common.{◌≡◌, sym, ap, ◌∙◌}
+use Rattle.std.proofs.Common.{◌≡◌, ap, ◌∙◌}
 use Rattle.std.specs.List.{slice_get}
 use Rattle.copies.specs.Copies.{position}
 use Rattle.racks.specs.Blanks.{blank_copy}

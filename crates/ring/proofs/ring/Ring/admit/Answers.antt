@@ -1,11 +1,9 @@
-use Rattle.std.proofs.Common.{◌≡◌, ℕ, List, [], ◌∷◌, ◌++◌, sym, refl, ap, ◌∙◌}
+use Rattle.std.proofs.Common.{ℕ, List, [], ◌∷◌, ◌++◌, sym, refl, ap, ◌∙◌}
 use Rattle.std.proofs.lemmas.Bool.{cond-false}
-use Rattle.messages.specs.declared.Message.{Message}
-use Rattle.messages.specs.declared.Message.TheVariants.{RetrieveItems}
 use Rattle.circle.specs.Owners.{predecessor, successor}
 use Rattle.rules.specs.declared.Peer.{Peer}
 use Rattle.rules.specs.declared.PeerState.TheVariants.{Filling, Giving}
-use Rattle.rules.specs.State.{State, Settings, members, peer, with_state, with_table, with_post}
+use Rattle.rules.specs.State.{members, peer, with_table, with_post}
 use Rattle.ring.specs.Views.{viewed, sizes}
 use Rattle.ring.proofs.Memberships.{both_some, join_alone, join_between, join_room, join_place, with_state_length}
 use Rattle.ring.proofs.ring.Ring.admit.Goals as goal

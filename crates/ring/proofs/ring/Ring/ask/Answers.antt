@@ -1,11 +1,9 @@
-use Rattle.std.proofs.Common.{◌≡◌, ℕ, ◌+◌, List, [], ◌∷◌, ◌++◌, sym, refl, ap, ◌∙◌, arith}
+use Rattle.std.proofs.Common.{ℕ, ◌+◌, [], ◌∷◌, ◌++◌, refl, ap, ◌∙◌, arith}
 use Rattle.std.proofs.lemmas.Bool.{cond-false}
-use Rattle.messages.specs.declared.Message.{Message}
 use Rattle.messages.specs.declared.Message.TheVariants.{GetItem}
-use Rattle.rules.specs.State.{State, Settings, owner_else, question, with_post, with_questions}
+use Rattle.rules.specs.State.{owner_else, question, with_post, with_questions}
 use Rattle.rules.specs.declared.Reply.TheVariants.{Waiting}
 use Rattle.rules.specs.Rules.{opened}
-use Rattle.tables.specs.Tables.{peers_of}
 use Rattle.ring.specs.Views.{viewed, sizes}
 use Rattle.ring.proofs.Itemings.{lookup_accepted}
 use Rattle.ring.proofs.ring.Ring.ask.Goals as goal

@@ -1,19 +1,13 @@
-use Rattle.std.proofs.Common.{◌≡◌, ℕ, List, [], Some, sym, refl, ap, ◌∙◌}
+use Rattle.std.proofs.Common.{◌≡◌, ℕ, [], Some, sym, refl, ap, ◌∙◌}
 use Rattle.faults.specs.declared.Fault.TheVariants.{NoQuestion}
-use Rattle.messages.specs.declared.Message.{Message}
-use Rattle.rules.specs.declared.Question.{Question}
-use Rattle.rules.specs.declared.Reply.{Reply}
 use Rattle.rules.specs.declared.Reply.TheVariants.{Waiting, TooEarly, Held, Absent}
 use Rattle.rules.specs.declared.Call.TheVariants.{Collect}
-use Rattle.rules.specs.declared.Answer.{Answer}
 use Rattle.rules.specs.declared.Answer.TheVariants.{Found, Nothing, NotYet, Withdrawn}
-use Rattle.rules.specs.State.{State, Settings, unasked, reply_to, with_post, with_questions}
-use Rattle.rules.specs.Rules.{Did, did, closing, collecting}
-use Rattle.ring.specs.declared.ring.Ring.{Ring}
-use Rattle.ring.specs.Views.{viewed, sizes, Performs}
+use Rattle.rules.specs.State.{unasked, reply_to, with_post, with_questions}
+use Rattle.rules.specs.Rules.{closing}
+use Rattle.ring.specs.Views.{viewed, sizes}
 use Rattle.ring.proofs.Performing.{performs_refused, performs_accepted}
 use Rattle.ring.proofs.Collecting.{collect_refused, collect_open, collect_outcome}
-use Rattle.ring.proofs.ring.Ring.collect.Given as given
 use Rattle.ring.proofs.ring.Ring.collect.Goals as goal
 
 pub returns-in_default : goal.returns-in_default

@@ -1,15 +1,13 @@
-use Rattle.std.proofs.Common.{◌≡◌, ℕ, List, [], Some, sym, refl, ap, ◌∙◌}
+use Rattle.std.proofs.Common.{◌≡◌, List, Some, refl, ap, ◌∙◌}
 use Rattle.std.specs.List.{remove}
 use Rattle.messages.specs.declared.Message.{Message}
 use Rattle.rules.specs.declared.Call.TheVariants.{Deliver}
-use Rattle.rules.specs.State.{State, Settings, state_of, addressee, with_post}
-use Rattle.rules.specs.Rules.{Did, delivered, delivering}
+use Rattle.rules.specs.State.{state_of, addressee, with_post}
+use Rattle.rules.specs.Rules.{delivered, delivering}
 use Rattle.rules.specs.Edits.{delivery_edits}
-use Rattle.ring.specs.declared.ring.Ring.{Ring}
-use Rattle.ring.specs.Views.{viewed, sizes, Leads}
+use Rattle.ring.specs.Views.{viewed, sizes}
 use Rattle.ring.proofs.Performing.{performs_refused, performs_delivery}
 use Rattle.ring.proofs.Delivering.{place_again, not_cramped, cramped_taken, edits_taken, slotted}
-use Rattle.ring.proofs.ring.Ring.deliver.Given as given
 use Rattle.ring.proofs.ring.Ring.deliver.Goals as goal
 
 pub receive-requires : goal.receive-requires

@@ -1,9 +1,7 @@
-use Rattle.std.proofs.Common.{◌≡◌, ℕ, List, [], ◌∷◌, ◌++◌, sym, refl, ap, ◌∙◌}
+use Rattle.std.proofs.Common.{ℕ, sym, refl, ap, ◌∙◌}
 use Rattle.std.proofs.lemmas.Bool.{cond-false}
-use Rattle.circle.specs.Owners.{predecessor, successor}
-use Rattle.rules.specs.declared.Peer.{Peer}
-use Rattle.rules.specs.declared.PeerState.TheVariants.{Filling, Leaving}
-use Rattle.rules.specs.State.{State, Settings, members, with_state, with_table, with_post}
+use Rattle.rules.specs.declared.PeerState.TheVariants.{Filling}
+use Rattle.rules.specs.State.{with_state, with_table, with_post}
 use Rattle.ring.specs.Views.{viewed, sizes}
 use Rattle.ring.proofs.Memberships.{leave_alone, leave_between, leave_place}
 use Rattle.ring.proofs.ring.Ring.dismiss.Goals as goal

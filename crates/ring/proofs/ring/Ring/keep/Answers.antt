@@ -1,11 +1,10 @@
 use Rattle.std.proofs.Common.{◌≡◌, ℕ, Bool, true, false, cond, List, [], ◌∷◌, fold, sym, refl, ap, ◌∙◌}
 use Rattle.copies.specs.declared.CopyRecord.{CopyRecord}
-use Rattle.copies.specs.declared.Edit.{Edit}
 use Rattle.copies.specs.declared.Edit.TheVariants.{Put}
 use Rattle.copies.specs.Copies.{find, put}
 use Rattle.rules.specs.declared.Answer.TheVariants.{Kept, Older}
 use Rattle.rules.specs.Handover.{spot, entry, newer}
-use Rattle.rules.specs.State.{State, Settings, with_shelf}
+use Rattle.rules.specs.State.{with_shelf}
 use Rattle.rules.specs.Rules.{Did, did, adding}
 use Rattle.ring.specs.Views.{viewed, sizes}
 use Rattle.ring.proofs.ring.Ring.keep.Goals as goal

@@ -4,7 +4,6 @@ use Rattle.rules.specs.declared.Answer.TheVariants.{Done}
 use Rattle.ring.specs.Views.{viewed, sizes, gone_from}
 use Rattle.ring.proofs.Performing.{performs_refused, performs_accepted}
 use Rattle.ring.proofs.Memberships.{leave_below}
-use Rattle.ring.proofs.ring.Ring.leave.Given as given
 use Rattle.ring.proofs.ring.Ring.leave.Goals as goal
 
 pub returns-in-Some : goal.returns-in-Some

@@ -1,5 +1,4 @@
-use Rattle.std.proofs.Common.{◌≡◌, ℕ, ◌-◌, true, false, Some, sym, refl, ap, ◌∙◌}
-use Rattle.faults.specs.declared.Fault.{Fault}
+use Rattle.std.proofs.Common.{ℕ, ◌-◌, true, false, Some, sym, ap, ◌∙◌}
 use Rattle.faults.specs.declared.Fault.TheVariants.{ShelfFull}
 use Rattle.ring.specs.Views.{viewed, sizes}
 use Rattle.ring.proofs.Delivering.{nothing_there, message_there}

@@ -1,10 +1,5 @@
-use Rattle.std.proofs.Common.{◌≡◌, List, sym, refl, ap, ◌∙◌}
+use Rattle.std.proofs.Common.{sym, refl, ◌∙◌}
 use Rattle.std.proofs.lemmas.List.{nil_from_length}
-use Rattle.copies.specs.declared.CopyRecord.{CopyRecord}
-use Rattle.messages.specs.declared.Message.{Message}
-use Rattle.rules.specs.declared.Peer.{Peer}
-use Rattle.rules.specs.declared.Question.{Question}
-use Rattle.rules.specs.State.{State}
 use Rattle.ring.proofs.ring.Ring.new.Goals as goal
 
 pub returns : goal.returns

@@ -1,4 +1,4 @@
-use Rattle.std.proofs.Common.{◌≡◌, cond, [], ◌∷◌, Some, sym, refl, ap, ◌∙◌}
+use Rattle.std.proofs.Common.{cond, [], ◌∷◌, Some, sym, ap, ◌∙◌}
 use Rattle.copies.specs.declared.Edit.TheVariants.{Put}
 use Rattle.copies.specs.Copies.{find}
 use Rattle.rules.specs.State.{state_of}

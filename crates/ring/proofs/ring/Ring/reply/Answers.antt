@@ -1,10 +1,10 @@
-use Rattle.std.proofs.Common.{◌≡◌, Bool, cond, List, sym, refl, ap, ◌∙◌}
+use Rattle.std.proofs.Common.{◌≡◌, Bool, cond, List, refl, ap, ◌∙◌}
 use Rattle.copies.specs.Copies.{find}
 use Rattle.rules.specs.declared.Question.{Question}
 use Rattle.rules.specs.declared.Reply.{Reply}
 use Rattle.rules.specs.declared.Reply.TheVariants.{TooEarly}
 use Rattle.rules.specs.Handover.{spot}
-use Rattle.rules.specs.State.{State, Settings, with_reply, with_questions}
+use Rattle.rules.specs.State.{with_reply, with_questions}
 use Rattle.rules.specs.Rules.{still_to_come, shown, answering}
 use Rattle.ring.specs.Views.{viewed, sizes, sized}
 use Rattle.ring.proofs.ring.Ring.reply.Goals as goal

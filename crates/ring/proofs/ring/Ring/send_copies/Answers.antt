@@ -1,6 +1,6 @@
-use Rattle.std.proofs.Common.{◌≡◌, ℕ, ◌+◌, List, ◌++◌, sym, refl, ap, ◌∙◌, arith}
+use Rattle.std.proofs.Common.{ℕ, ◌+◌, List, ◌++◌, refl, ap, ◌∙◌, arith}
 use Rattle.messages.specs.declared.Message.{Message}
-use Rattle.rules.specs.State.{State, Settings, with_post, with_stamp}
+use Rattle.rules.specs.State.{with_post, with_stamp}
 use Rattle.rules.specs.Rules.{inserted}
 use Rattle.tables.specs.Tables.{peers_of}
 use Rattle.ring.specs.Views.{viewed, sizes}

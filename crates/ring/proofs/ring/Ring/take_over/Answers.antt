@@ -1,9 +1,7 @@
-use Rattle.std.proofs.Common.{◌≡◌, ℕ, List, sym, refl, ap, ◌∙◌}
-use Rattle.copies.specs.declared.CopyRecord.{CopyRecord}
-use Rattle.rules.specs.declared.Peer.{Peer}
+use Rattle.std.proofs.Common.{ℕ, refl, ap, ◌∙◌}
 use Rattle.rules.specs.declared.PeerState.TheVariants.{Settled}
 use Rattle.rules.specs.declared.Answer.TheVariants.{Moved}
-use Rattle.rules.specs.State.{State, Settings, with_state, with_shelf, with_table}
+use Rattle.rules.specs.State.{with_state, with_shelf, with_table}
 use Rattle.rules.specs.Rules.{handing_over}
 use Rattle.ring.specs.Views.{viewed, sizes}
 use Rattle.ring.proofs.ring.Ring.take_over.Goals as goal

@@ -1,6 +1,5 @@
-use Rattle.std.proofs.Common.{◌≡◌, ℕ, ◌+◌, ◌<◌, List, length, get_or, sym, ap, ◌∙◌, subst, arith}
-use Rattle.std.proofs.lemmas.List.Filters.{FiltersInPlace, FiltersInPlace-more_no, FiltersInPlace-more_set}
-use Rattle.rosters.specs.Rows.{other_than}
+use Rattle.std.proofs.Common.{◌≡◌, ◌<◌, length, get_or, sym, ap, ◌∙◌, arith}
+use Rattle.std.proofs.lemmas.List.Filters.{FiltersInPlace-more_no, FiltersInPlace-more_set}
 use Rattle.rosters.proofs.Passes.{other_true, other_false, keeping_first, keeping_at}
 use Rattle.rosters.proofs.roster.Roster.remove.Goals as goal
 use Rattle.rosters.proofs.roster.Roster.remove.Goals.{then-key-wanted, else-key-wanted}
