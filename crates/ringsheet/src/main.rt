@@ -3,10 +3,13 @@
 //     ringsheet < week.sheet
 #![tactic(auto)]
 
+ghost use Rattle.std.specs.Prelude.{◌≤◌, length, IfOk};
+
 use byte_posts::BytePost;
 use copies::{Coordinate, CopyRecord, Entry};
 use rack_shelves::RackShelf;
 use sheets::answer_sheet;
+use std::alloc::{AllocError, Global};
 use std::io;
 use std::io::{Read, Write};
 
@@ -19,7 +22,9 @@ const SHELF_COPIES: usize = 1_024;
 const POST_BYTES: usize = 5_632;
 
 // Reads standard input as far as the buffer goes, and tells how much there was.
-fn read_sheet(rt: &HostRuntime, buffer: &mut [u8]) -> io::Result<usize> {
+fn read_sheet(rt: &HostRuntime, buffer: &mut [u8]) -> io::Result<usize>
+    ensures { IfOk result (λ n. n ≤ length buffer.old) }
+{
     let mut input = rt.stdin();
     let mut read = 0;
     while read < buffer.len() {
@@ -32,9 +37,8 @@ fn read_sheet(rt: &HostRuntime, buffer: &mut [u8]) -> io::Result<usize> {
     Ok(read)
 }
 
-fn main(rt: HostRuntime) -> anyhow::Result<()> {
-    let mut sheet = vec![in rt.alloc(); 0u8; SHEET_BYTES]?;
-    let read = read_sheet(&rt, sheet.as_mut_slice())?;
+// Answers a sheet with a rack shelf and a byte post, in memory of their own.
+fn answer(heap: Global, sheet: &[u8]) -> Result<Vec<u8>, AllocError> {
     let blank = CopyRecord {
         at: Coordinate {
             peer: 0,
@@ -43,16 +47,17 @@ fn main(rt: HostRuntime) -> anyhow::Result<()> {
         },
         held: Entry { stamp: 0, value: 0 },
     };
-    let mut copies = vec![in rt.alloc(); blank; SHELF_COPIES]?;
-    let mut messages = vec![in rt.alloc(); 0u8; POST_BYTES]?;
+    let mut copies = vec![in heap; blank; SHELF_COPIES]?;
+    let mut messages = vec![in heap; 0u8; POST_BYTES]?;
     let mut shelf = RackShelf::make(copies.as_mut_slice());
     let mut post = BytePost::make(messages.as_mut_slice());
-    let text = answer_sheet(
-        rt.alloc(),
-        &sheet.as_slice()[0..read],
-        &mut shelf,
-        &mut post,
-    )?;
+    answer_sheet(heap, sheet, &mut shelf, &mut post)
+}
+
+fn main(rt: HostRuntime) -> anyhow::Result<()> {
+    let mut sheet = vec![in rt.alloc(); 0u8; SHEET_BYTES]?;
+    let read = read_sheet(&rt, sheet.as_mut_slice())?;
+    let text = answer(rt.alloc(), &sheet.as_slice()[0..read])?;
     rt.stdout().write_all(text.as_slice())?;
     Ok(())
 }
