@@ -1,6 +1,6 @@
 -- Facts about what a shelf holds: find after put and remove, order, counting, next, and that find tells all.
 use Rattle.std.proofs.Common.{◌≡◌, ℕ, suc, ◌+◌, true, false, cond, List, [], ◌∷◌, length, Some, None, Option, sym, refl, ap, ◌∙◌, subst, ⊎_elim, add-one, arith}
-use Rattle.std.specs.List.{AllByRecursion as All}
+use Rattle.std.specs.List.{AllByRecursion}
 use Rattle.std.proofs.ByRecursion.{All-weaker}
 use Rattle.std.proofs.lemmas.Bool.{cond-true, cond-false, cond_both, cases_Bool, both_ways}
 use Rattle.copies.specs.declared.Coordinate.{Coordinate}
@@ -40,12 +40,12 @@ absent_parts x xs c h =
     ⊎_elim (λ s. absurd (some_none (sym (find_here x xs c s) ∙ h))) (λ n. (n, sym (find_there x xs c n) ∙ h)) (cases_Bool (same x.at c))
 
 -- what comes before all copies is absent
-pub absent_before : (xs : List CopyRecord) (c : Coordinate) → All (λ y. before c y.at ≡ true) xs → find xs c ≡ None
+pub absent_before : (xs : List CopyRecord) (c : Coordinate) → AllByRecursion (λ y. before c y.at ≡ true) xs → find xs c ≡ None
 absent_before [] c h = refl
 absent_before (x ∷ xs) c h =
     find_there x xs c (same_flip x.at c ∙ apart_from_before c x.at h.0) ∙ absent_before xs c h.1
 
-all_after : (c : Coordinate) (x : CopyRecord) (xs : List CopyRecord) → before c x.at ≡ true → All (λ y. before x.at y.at ≡ true) xs → All (λ y. before c y.at ≡ true) (x ∷ xs)
+all_after : (c : Coordinate) (x : CopyRecord) (xs : List CopyRecord) → before c x.at ≡ true → AllByRecursion (λ y. before x.at y.at ≡ true) xs → AllByRecursion (λ y. before c y.at ≡ true) (x ∷ xs)
 all_after c x xs h a =
     (h, All-weaker (λ y. before x.at y.at ≡ true) (λ y. before c y.at ≡ true) (λ y k. before_through c x.at y.at h k) xs a)
 
@@ -98,21 +98,21 @@ find_after_remove xs c d o =
 
 -- ---- order
 
-pub all_put : (P : CopyRecord → Type 0) (xs : List CopyRecord) (c : Coordinate) (e : Entry) → All P xs → P (copy c e) → All P (put xs c e)
+pub all_put : (P : CopyRecord → Type 0) (xs : List CopyRecord) (c : Coordinate) (e : Entry) → AllByRecursion P xs → P (copy c e) → AllByRecursion P (put xs c e)
 all_put P [] c e h p = (p, tt)
 all_put P (x ∷ xs) c e h p =
-    by_put x xs c e (λ ys. All P ys) (λ _. (h.0, all_put P xs c e h.1 p)) (λ _ _. (p, h.1)) (λ _ _. (p, h))
+    by_put x xs c e (λ ys. AllByRecursion P ys) (λ _. (h.0, all_put P xs c e h.1 p)) (λ _ _. (p, h.1)) (λ _ _. (p, h))
 
-pub all_remove : (P : CopyRecord → Type 0) (xs : List CopyRecord) (c : Coordinate) → All P xs → All P (remove xs c)
+pub all_remove : (P : CopyRecord → Type 0) (xs : List CopyRecord) (c : Coordinate) → AllByRecursion P xs → AllByRecursion P (remove xs c)
 all_remove P [] c h = tt
-all_remove P (x ∷ xs) c h = by_remove x xs c (λ ys. All P ys) (λ _. h.1) (λ _. (h.0, all_remove P xs c h.1))
+all_remove P (x ∷ xs) c h = by_remove x xs c (λ ys. AllByRecursion P ys) (λ _. h.1) (λ _. (h.0, all_remove P xs c h.1))
 
 pub ordered_put : (xs : List CopyRecord) (c : Coordinate) (e : Entry) → Ordered xs → Ordered (put xs c e)
 ordered_put [] c e o = (tt, tt)
 ordered_put (x ∷ xs) c e o =
     by_put x xs c e Ordered
     (λ b. (all_put (λ y. before x.at y.at ≡ true) xs c e o.0 b, ordered_put xs c e o.1))
-    (λ _ s. (subst (λ a. All (λ y. before a y.at ≡ true) xs) (equal_from_same x.at c s) o.0, o.1))
+    (λ _ s. (subst (λ a. AllByRecursion (λ y. before a y.at ≡ true) xs) (equal_from_same x.at c s) o.0, o.1))
     (λ b s. (all_after c x xs (before_other x.at c b s) o.0, o))
 
 pub ordered_remove : (xs : List CopyRecord) (c : Coordinate) → Ordered xs → Ordered (remove xs c)
@@ -171,7 +171,7 @@ first_agrees x y xs ys e h =
     ap (λ a. copy a x.held) e ∙ ap (λ v. copy y.at v) held
 
 -- the first of one list cannot come before all of the other
-not_first : (x : CopyRecord) (xs ys : List CopyRecord) → ((c : Coordinate) → find (x ∷ xs) c ≡ find ys c) → All (λ y. before x.at y.at ≡ true) ys → ⊥
+not_first : (x : CopyRecord) (xs ys : List CopyRecord) → ((c : Coordinate) → find (x ∷ xs) c ≡ find ys c) → AllByRecursion (λ y. before x.at y.at ≡ true) ys → ⊥
 not_first x xs ys h a =
     some_none (sym (find_here x xs x.at (same_itself x.at)) ∙ (h x.at ∙ absent_before ys x.at a))
 
@@ -196,7 +196,7 @@ next_there : (x : CopyRecord) (xs : List CopyRecord) (p low high : ℕ) → in_r
 next_there x xs p low high h = cond-false (in_range p low high x) (Some x) (next xs p low high) h
 
 -- what holds of every copy holds of the next one
-pub next_all : (P : CopyRecord → Type 0) (xs : List CopyRecord) (p low high : ℕ) (y : CopyRecord) → All P xs → next xs p low high ≡ Some y → P y
+pub next_all : (P : CopyRecord → Type 0) (xs : List CopyRecord) (p low high : ℕ) (y : CopyRecord) → AllByRecursion P xs → next xs p low high ≡ Some y → P y
 next_all P [] p low high y a h = absurd (some_none (sym h))
 next_all P (x ∷ xs) p low high y a h =
     ⊎_elim
@@ -239,7 +239,7 @@ next_first (x ∷ xs) p low high y d e o h f r =
     not_before_itself : (a : Coordinate) → before a a ≡ false
     not_before_itself a = ⊎_elim (λ b. before_flip a a b) (λ b. b) (cases_Bool (before a a))
 
-    all_before : (x : CopyRecord) (d : Coordinate) (xs : List CopyRecord) → before d x.at ≡ true → All (λ y. before x.at y.at ≡ true) xs → All (λ y. before d y.at ≡ true) xs
+    all_before : (x : CopyRecord) (d : Coordinate) (xs : List CopyRecord) → before d x.at ≡ true → AllByRecursion (λ y. before x.at y.at ≡ true) xs → AllByRecursion (λ y. before d y.at ≡ true) xs
     all_before x d xs b a = (all_after d x xs b a).1
 
 pub next_none : (xs : List CopyRecord) (p low high : ℕ) (d : Coordinate) (e : Entry) → next xs p low high ≡ None → find xs d ≡ Some e → in_range p low high (copy d e) ≡ false
@@ -271,7 +271,7 @@ next_put_absent (x ∷ xs) c e p low high o h =
     (λ i. next_there x (put xs c e) p low high i ∙ (next_put_absent xs c e p low high o.1 parts.1 ∙ ap (nearer_in_range p low high (copy c e)) (sym (next_there x xs p low high i))))
     (cases_Bool (in_range p low high x)))
     (λ _ s. absurd (both_ways (same x.at c) parts.0 s))
-    (λ b n. let later : All (λ y. before c y.at ≡ true) (x ∷ xs) = all_after c x xs (before_other x.at c b n) o.0 in
+    (λ b n. let later : AllByRecursion (λ y. before c y.at ≡ true) (x ∷ xs) = all_after c x xs (before_other x.at c b n) o.0 in
     by_range p low high (copy c e) (next (x ∷ xs) p low high) (next (copy c e ∷ (x ∷ xs)) p low high)
     (λ i. next_here (copy c e) (x ∷ xs) p low high i ∙ sym (nearer_kept (copy c e) (next (x ∷ xs) p low high) (λ y f. before_flip c y.at (next_all (λ z. before c z.at ≡ true) (x ∷ xs) p low high y later f))))
     (λ i. next_there (copy c e) (x ∷ xs) p low high i))

@@ -1,7 +1,7 @@
 -- What a shelf holds: its copies in the order of peer, then place, then replica, no coordinate twice.
 -- Such a list is a finite map from coordinates to entries; `find` reads it. Assumes nothing.
 use Rattle.std.specs.Prelude.{◌≡◌, ℕ, suc, Bool, true, cond, not, ◌&&◌, ◌||◌, List, [], ◌∷◌, is_some, Some, None, Option, ◌==◌, nat_le, nat_lt}
-use Rattle.std.specs.List.{AllByRecursion as All}
+use Rattle.std.specs.List.{AllByRecursion}
 use Rattle.copies.specs.declared.Coordinate.{Coordinate}
 use Rattle.copies.specs.declared.Entry.{Entry}
 use Rattle.copies.specs.declared.CopyRecord.{CopyRecord}
@@ -23,7 +23,7 @@ copy c x = record { at = c; held = x }
 -- each copy comes before all that follow it
 abbrev pub Ordered : List CopyRecord → Type 0
 Ordered [] = Unit {0}
-Ordered (x ∷ xs) = All (λ y. before x.at y.at ≡ true) xs × Ordered xs
+Ordered (x ∷ xs) = AllByRecursion (λ y. before x.at y.at ≡ true) xs × Ordered xs
 
 -- what c maps to
 abbrev pub find : List CopyRecord → Coordinate → Option Entry

@@ -1,6 +1,6 @@
 -- An arc is one range of places, or two where it passes 0. Assumes nothing.
 use Rattle.std.proofs.Common.{◌≡◌, ℕ, ◌+◌, ◌-◌, ◌<◌, ◌≤◌, Bool, true, false, cond, ◌&&◌, eqb, ltb, leb, List, [], ◌∷◌, ◌++◌, length, fold, sym, refl, ap, ◌∙◌, append_assoc, arith, length-append}
-use Rattle.std.specs.List.{AllByRecursion as All}
+use Rattle.std.specs.List.{AllByRecursion}
 use Rattle.std.proofs.ByRecursion.{All-weaker, kept_by_passes}
 use Rattle.std.proofs.lemmas.Bool.{eq-eqb, ne_eqb, lt-ltb, le-ltb, and_right, and_parts, lt-leb, leb-true, cond-true, cond-false, both_ways}
 use Rattle.std.proofs.lemmas.Bool.Decides.{nat_tests}
@@ -80,7 +80,7 @@ apart g low high e x less in' =
     and_right (eqb x.at.peer g) (leb 0 x.at.place && leb x.at.place e) (and_right (leb 0 x.at.place) (leb x.at.place e) (lt-leb x.at.place e past))
 
 -- moving copies that are out of a range to another peer leaves what is in it
-left_moved : (x g e : ℕ) (other : x ≡ g → ⊥) (sh cs : List CopyRecord) → All (λ c. in_range g 0 e c ≡ false) cs → left g 0 e (fold (moved x) sh cs) ≡ left g 0 e sh
+left_moved : (x g e : ℕ) (other : x ≡ g → ⊥) (sh cs : List CopyRecord) → AllByRecursion (λ c. in_range g 0 e c ≡ false) cs → left g 0 e (fold (moved x) sh cs) ≡ left g 0 e sh
 left_moved x g e other sh [] out = refl
 left_moved x g e other sh (c ∷ cs) out =
     left_moved x g e other (moved x sh c) cs out.1

@@ -1,6 +1,6 @@
 -- What a list of copies does that all move from one peer to another.
 use Rattle.std.proofs.Common.{◌≡◌, ℕ, Bool, true, false, ◌||◌, eqb, List, [], ◌∷◌, Some, fold, sym, ap, ◌∙◌, ⊎_elim}
-use Rattle.std.specs.List.{AllByRecursion as All}
+use Rattle.std.specs.List.{AllByRecursion}
 use Rattle.std.proofs.lemmas.Bool.{cases_Bool, eqb-true, both_ways, and_parts}
 use Rattle.copies.specs.declared.CopyRecord.{CopyRecord}
 use Rattle.copies.specs.Copies.{same, before, Ordered, find}
@@ -18,11 +18,11 @@ abbrev pub Of : ℕ → List CopyRecord → CopyRecord → Type 0
 Of g sh y = (y.at.peer ≡ g) × (find sh y.at ≡ Some y.held)
 
 -- they all move, in order
-pub all_moved : (sh : List CopyRecord) (x g : ℕ) (cs : List CopyRecord) → Ordered sh → Ordered cs → (g ≡ x → ⊥) → All (Of g sh) cs → Handed sh (fold (moved x) sh cs) x g (any_of cs)
+pub all_moved : (sh : List CopyRecord) (x g : ℕ) (cs : List CopyRecord) → Ordered sh → Ordered cs → (g ≡ x → ⊥) → AllByRecursion (Of g sh) cs → Handed sh (fold (moved x) sh cs) x g (any_of cs)
 all_moved sh x g [] o oc n all = none_handed sh x g o
 all_moved sh x g (c ∷ cs) o oc n all =
     let first = moved_one sh x g c o n all.0.0 all.0.1 in
-    let still : All (Of g (moved x sh c)) cs = stays_found cs oc.0 all.1 first in
+    let still : AllByRecursion (Of g (moved x sh c)) cs = stays_found cs oc.0 all.1 first in
     both_handed sh (moved x sh c) (fold (moved x) (moved x sh c) cs) x g (just c.at.replica c.at.place) (any_of cs) first (all_moved (moved x sh c) x g cs first.ordered oc.1 n still)
   where
     at_g : (y : CopyRecord) → y.at.peer ≡ g → y.at ≡ spot g y.at.replica y.at.place
@@ -38,7 +38,7 @@ all_moved sh x g (c ∷ cs) o oc n all =
         (λ f. f)
         (cases_Bool (just c.at.replica c.at.place y.at.replica y.at.place))
 
-    stays_found : (ys : List CopyRecord) → All (λ y. before c.at y.at ≡ true) ys → All (Of g sh) ys → Handed sh (moved x sh c) x g (just c.at.replica c.at.place) → All (Of g (moved x sh c)) ys
+    stays_found : (ys : List CopyRecord) → AllByRecursion (λ y. before c.at y.at ≡ true) ys → AllByRecursion (Of g sh) ys → Handed sh (moved x sh c) x g (just c.at.replica c.at.place) → AllByRecursion (Of g (moved x sh c)) ys
     stays_found [] l a h = tt
     stays_found (y ∷ ys) l a h = (
       (a.0.0, ap (find (moved x sh c)) (at_g y a.0.0) ∙ (h.giver_keeps y.at.replica y.at.place (not_it y all.0.0 a.0.0 l.0) ∙ (ap (find sh) (sym (at_g y a.0.0)) ∙ a.0.1))),

@@ -1,6 +1,6 @@
 -- What the copies of a range of places do that all move.
 use Rattle.std.proofs.Common.{◌≡◌, ℕ, Bool, true, false, ◌&&◌, ◌||◌, eqb, leb, List, [], ◌∷◌, Some, None, fold, filter, sym, refl, ap, ◌∙◌, subst, ⊎_elim}
-use Rattle.std.specs.List.{AllByRecursion as All}
+use Rattle.std.specs.List.{AllByRecursion}
 use Rattle.std.proofs.ByRecursion.{All-weaker, all_kept_by, kept_by_passes}
 use Rattle.std.proofs.lemmas.Bool.{cases_Bool, cond-true, cond-false, eqb-true, eq-eqb, both_ways, and_parts, and_from, or_cases, or_parts}
 use Rattle.copies.specs.declared.Coordinate.{Coordinate}
@@ -36,16 +36,16 @@ ordered_kept test (x ∷ xs) o =
     (cases_Bool (test x))
 
 -- every copy of an ordered list is found in it
-self_found : (xs : List CopyRecord) → Ordered xs → All (λ y. find xs y.at ≡ Some y.held) xs
+self_found : (xs : List CopyRecord) → Ordered xs → AllByRecursion (λ y. find xs y.at ≡ Some y.held) xs
 self_found [] o = tt
 self_found (x ∷ xs) o =
     (find_here x xs x.at (same_itself x.at), later xs o.0 (self_found xs o.1))
   where
-    later : (ys : List CopyRecord) → All (λ y. before x.at y.at ≡ true) ys → All (λ y. find xs y.at ≡ Some y.held) ys → All (λ y. find (x ∷ xs) y.at ≡ Some y.held) ys
+    later : (ys : List CopyRecord) → AllByRecursion (λ y. before x.at y.at ≡ true) ys → AllByRecursion (λ y. find xs y.at ≡ Some y.held) ys → AllByRecursion (λ y. find (x ∷ xs) y.at ≡ Some y.held) ys
     later [] l a = tt
     later (y ∷ ys) l a = (find_there x xs y.at (apart_from_before x.at y.at l.0) ∙ a.0, later ys l.1 a.1)
 
-any_in : (P : ℕ → ℕ → Bool) (cs : List CopyRecord) (r i : ℕ) → All (λ y. P y.at.replica y.at.place ≡ true) cs → any_of cs r i ≡ true → P r i ≡ true
+any_in : (P : ℕ → ℕ → Bool) (cs : List CopyRecord) (r i : ℕ) → AllByRecursion (λ y. P y.at.replica y.at.place ≡ true) cs → any_of cs r i ≡ true → P r i ≡ true
 any_in P [] r i a t = absurd (both_ways false refl t)
 any_in P (c ∷ cs) r i a t =
     ⊎_elim
@@ -88,10 +88,10 @@ range_moved base sh x g low high ob o n like =
     cs : List CopyRecord
     cs = filter (in_range g low high) base
 
-    passes : All (λ y. in_range g low high y ≡ true) (filter (in_range g low high) base)
+    passes : AllByRecursion (λ y. in_range g low high y ≡ true) (filter (in_range g low high) base)
     passes = kept_by_passes (in_range g low high) base
 
-    found : (ys : List CopyRecord) → All (λ y. in_range g low high y ≡ true) ys → All (λ y. find base y.at ≡ Some y.held) ys → All (Of g sh) ys
+    found : (ys : List CopyRecord) → AllByRecursion (λ y. in_range g low high y ≡ true) ys → AllByRecursion (λ y. find base y.at ≡ Some y.held) ys → AllByRecursion (Of g sh) ys
     found [] a b = tt
     found (y ∷ ys) a b =
         let p = in_range_parts g low high y a.0 in
