@@ -1,5 +1,5 @@
 -- Bytes cut into lines and fields. Assumes nothing.
-use Rattle.std.specs.Prelude.{ℕ, ◌+◌, Bool, cond, List, [], ◌∷◌, ◌==◌, slice_index_or}
+use Rattle.std.specs.Prelude.{ℕ, cond, List, [], ◌∷◌, ◌==◌, slice_index_or}
 
 -- how much of a sheet is read
 abbrev pub sheet_limit : ℕ

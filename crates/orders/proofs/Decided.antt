@@ -1,5 +1,5 @@
 -- A line that was read as an order, from what its parts were found to be. Assumes nothing.
-use Rattle.std.proofs.Common.{◌≡◌, ℕ, eqb, List, length, Err, Option, sym, refl, ap, ◌∙◌, subst}
+use Rattle.std.proofs.Common.{◌≡◌, ℕ, eqb, List, length, Err, Option, sym, ap, ◌∙◌}
 use Rattle.std.proofs.lemmas.Bool.{eq-eqb, ne_eqb, cond-true, cond-false}
 use Rattle.lines.specs.Texts.{fields_of}
 use Rattle.orders.specs.declared.columns.Columns.{Columns}

@@ -1,5 +1,5 @@
 -- The first three lines of a sheet, one after the other. Assumes nothing.
-use Rattle.std.proofs.Common.{◌≡◌, ℕ, ◌+◌, Bool, true, false, List, [], ◌∷◌, get_or, drop, Some, None, Ok, Err, Option, Result, sym, refl, ap, ◌∙◌, subst, arith}
+use Rattle.std.proofs.Common.{◌≡◌, ℕ, ◌+◌, Bool, true, false, List, [], get_or, drop, Some, None, Ok, Err, sym, ap, ◌∙◌, arith}
 use Rattle.std.proofs.lemmas.List.{get_or-drop, drop-drop}
 use Rattle.faults.specs.declared.Fault.{Fault}
 use Rattle.arithmetic.specs.declared.settings.Settings.{Settings}
@@ -7,8 +7,8 @@ use Rattle.lines.specs.declared.lines.Lines.{Lines}
 use Rattle.lines.specs.Reading.{line_of, left_of, Advances}
 use Rattle.orders.specs.declared.columns.Columns.{Columns}
 use Rattle.orders.specs.Columns.{columns_of}
-use Rattle.orders.specs.Heads.{names_fault, numbers_of}
-use Rattle.sheets.specs.Heads.{Head, Opens, Refuses, head_in, settings_of, sizes_of, with_names, with_settings, with_columns}
+use Rattle.orders.specs.Heads.{names_fault}
+use Rattle.sheets.specs.Heads.{Opens, Refuses, head_in, settings_of, sizes_of, with_names}
 
 -- the present line after a step is the next one, or empty
 advanced_line : (l : Lines) (r : Bool) (l' : Lines) → Advances l r l' → line_of l' ≡ get_or (left_of l) 0 []

@@ -1,5 +1,5 @@
 -- One answer more: what is left of a sheet gives the whole of it. Assumes nothing.
-use Rattle.std.proofs.Common.{◌≡◌, ℕ, ◌+◌, ◌<◌, ◌≤◌, List, [], ◌∷◌, ◌++◌, length, take, drop, Some, None, Ok, Err, Option, Result, sym, refl, ap, ◌∙◌, subst, append_assoc, append-nil, arith, length-append}
+use Rattle.std.proofs.Common.{◌≡◌, ℕ, ◌+◌, ◌≤◌, List, [], ◌∷◌, ◌++◌, length, take, drop, Some, Ok, Err, Result, sym, ap, ◌∙◌, subst, append_assoc, append-nil, arith, length-append}
 use Rattle.std.proofs.lemmas.List.{take_at}
 use Rattle.faults.specs.declared.Fault.{Fault}
 use Rattle.copies.specs.declared.CopyRecord.{CopyRecord}
@@ -8,14 +8,14 @@ use Rattle.messages.specs.declared.Message.{Message}
 use Rattle.rules.specs.declared.Call.{Call}
 use Rattle.rules.specs.declared.Answer.{Answer}
 use Rattle.rules.specs.declared.Answer.TheVariants.{Refused}
-use Rattle.rules.specs.State.{Settings, State}
+use Rattle.rules.specs.State.{Settings}
 use Rattle.rules.specs.Rules.{step}
 use Rattle.runs.specs.Orders.{answers_from}
 use Rattle.ring.specs.declared.ring.Ring.{Ring}
-use Rattle.ring.specs.Views.{viewed, sizes, Performs}
+use Rattle.ring.specs.Views.{viewed, sizes}
 use Rattle.lines.specs.Reading.{left_of}
 use Rattle.orders.specs.Orders.{read_order}
-use Rattle.answer_lines.specs.AnswerLines.{answer_line, fronted, least_memory}
+use Rattle.answer_lines.specs.AnswerLines.{answer_line, least_memory}
 use Rattle.sheets.specs.declared.order_lines.OrderLines.{OrderLines}
 use Rattle.sheets.specs.Sheets.{call_then, calls_in, end_then, end_in, answer_lines, orders_text}
 use Rattle.sheets.specs.Answers.{Written, Takes, AnswersNext}

@@ -1,10 +1,9 @@
 -- A whole sheet's answers, from how it opened. Assumes nothing.
-use Rattle.std.proofs.Common.{◌≡◌, ℕ, ◌+◌, ◌≤◌, List, [], ◌∷◌, ◌++◌, length, take, Ok, Err, Result, sym, refl, ap, ◌∙◌, subst, arith}
+use Rattle.std.proofs.Common.{◌≡◌, ℕ, ◌+◌, ◌≤◌, List, ◌++◌, length, take, Ok, Result, sym, refl, ap, ◌∙◌, subst, arith}
 use Rattle.faults.specs.declared.Fault.{Fault}
 use Rattle.arithmetic.specs.declared.settings.Settings.{Settings as Code}
 use Rattle.rules.specs.declared.Answer.TheVariants.{Refused}
 use Rattle.rules.specs.State.{Settings, State, Lawful, empty}
-use Rattle.rules.specs.Laws.{Laws}
 use Rattle.laws.proofs.Whole.{every_run_keeps_its_laws}
 use Rattle.ring.specs.Views.{settled}
 use Rattle.lines.specs.Reading.{left_of}

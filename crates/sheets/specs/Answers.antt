@@ -1,5 +1,5 @@
 -- Opening a sheet and answering its orders one by one. Assumes nothing.
-use Rattle.std.specs.Prelude.{◌≡◌, ℕ, ◌+◌, ◌<◌, ◌≤◌, Bool, true, false, List, [], ◌∷◌, length, drop, Some, None, Ok, Err, Option, Result}
+use Rattle.std.specs.Prelude.{◌≡◌, ℕ, ◌+◌, ◌<◌, ◌≤◌, List, [], ◌∷◌, length, Some, None, Ok, Err, Option, Result}
 use Rattle.faults.specs.declared.Fault.{Fault}
 use Rattle.faults.specs.declared.Fault.TheVariants.{AnswerMemory}
 use Rattle.copies.specs.declared.CopyRecord.{CopyRecord}
@@ -11,7 +11,6 @@ use Rattle.rules.specs.declared.Answer.TheVariants.{Refused}
 use Rattle.ring.specs.declared.ring.Ring.{Ring}
 use Rattle.ring.specs.Views.{Performs}
 use Rattle.lines.specs.Reading.{left_of, bytes_left}
-use Rattle.orders.specs.declared.columns.Columns.{Columns}
 use Rattle.orders.specs.Orders.{read_order}
 use Rattle.answer_lines.specs.AnswerLines.{answer_line, fronted, least_memory}
 use Rattle.sheets.specs.declared.order_lines.OrderLines.{OrderLines}

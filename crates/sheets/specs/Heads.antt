@@ -1,5 +1,5 @@
 -- What the first three lines of a sheet make of it. Assumes nothing.
-use Rattle.std.specs.Prelude.{◌≡◌, ℕ, ◌+◌, List, [], ◌∷◌, drop, Some, None, Ok, Err, Option, Result, slice_index_or}
+use Rattle.std.specs.Prelude.{◌≡◌, ℕ, ◌+◌, List, [], drop, Some, None, Ok, Err, Option, Result, slice_index_or}
 use Rattle.faults.specs.declared.Fault.{Fault}
 use Rattle.faults.specs.Checks.{first_fault}
 use Rattle.arithmetic.specs.declared.settings.Settings.{Settings}

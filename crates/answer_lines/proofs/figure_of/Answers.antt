@@ -1,5 +1,5 @@
 use Rattle.std.proofs.Common.{rules}
-use Rattle.answer_lines.proofs.Chains.{digits16, digits32, digits64}
+use Rattle.answer_lines.proofs.Chains.{digits32, digits64}
 use Rattle.answer_lines.proofs.figure_of.Goals as goal
 
 pub returns-in-Inserted : goal.returns-in-Inserted

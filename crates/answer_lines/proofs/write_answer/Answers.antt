@@ -1,7 +1,6 @@
-use Rattle.std.proofs.Common.{◌≡◌, ℕ, ◌+◌, ◌^◌, ◌<◌, ◌≤◌, List, [], ◌∷◌, ◌++◌, length, Ok, Err, decimal, Option, sym, refl, ap, ◌∙◌, subst, zero-add, arith}
+use Rattle.std.proofs.Common.{◌≡◌, ℕ, List, [], ◌∷◌, ◌++◌, length, Ok, decimal, Option, sym, ap, ◌∙◌, zero-add, arith}
 use Rattle.std.proofs.lemmas.Bool.{le-ltb, cond-false}
-use Rattle.answer_lines.specs.AnswerLines.{result_of, figure_of, value_of, shown, width_of, answer_line, fronted}
-use Rattle.answer_lines.specs.Puts.{Puts}
+use Rattle.answer_lines.specs.AnswerLines.{shown, answer_line, fronted}
 use Rattle.answer_lines.proofs.Chains.{puts_five, puts_front, digits16, parts_short}
 use Rattle.answer_lines.proofs.write_answer.Goals as goal
 

@@ -1,4 +1,4 @@
-use Rattle.std.proofs.Common.{ℕ, ◌≤◌, List, [], ◌∷◌, length, decimal, Option, sym, ap, subst, arith}
+use Rattle.std.proofs.Common.{ℕ, ◌≤◌, [], ◌∷◌, length, decimal, Option, sym, subst, arith}
 use Rattle.answer_lines.specs.AnswerLines.{shown}
 use Rattle.answer_lines.specs.Puts.{Puts}
 use Rattle.answer_lines.proofs.Chains.{puts_then}

@@ -1,4 +1,4 @@
-use Rattle.std.proofs.Common.{◌≡◌, sym, refl, ap, ◌∙◌, arith}
+use Rattle.std.proofs.Common.{◌≡◌, ap, ◌∙◌, arith}
 use Rattle.lines.specs.Texts.{field_at}
 use Rattle.lines.proofs.Cutting.{passed_none, passed_more, passed_all}
 use Rattle.lines.proofs.cuts.bytes_in.Goals as goal

@@ -1,4 +1,4 @@
-use Rattle.std.proofs.Common.{◌≡◌, ◌<◌, ◌≤◌, length, sym, refl, ap, ◌∙◌, arith}
+use Rattle.std.proofs.Common.{◌<◌, ◌≤◌, length, ap, arith}
 use Rattle.lines.proofs.Cutting.{count_comma, count_other, count_all, fields_some, some_tested}
 use Rattle.lines.proofs.cuts.count_fields.Goals as goal
 use Rattle.lines.proofs.cuts.count_fields.Goals.{then-byte-eq44, else-byte-eq44}

@@ -1,4 +1,4 @@
-use Rattle.std.proofs.Common.{◌≡◌, sym, refl, ◌∙◌}
+use Rattle.std.proofs.Common.{sym, refl, ◌∙◌}
 use Rattle.lines.specs.Reading.{line_of}
 use Rattle.orders.specs.Orders.{unreadable, first_unreadable}
 use Rattle.orders.proofs.Searches.{first_here, first_later, first_none}

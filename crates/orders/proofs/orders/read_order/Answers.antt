@@ -1,6 +1,6 @@
-use Rattle.std.proofs.Common.{◌≡◌, Some, None, Ok, Err, ap, ◌∙◌}
+use Rattle.std.proofs.Common.{Some, None, Ok, Err, ap, ◌∙◌}
 use Rattle.lines.specs.Reading.{line_of}
-use Rattle.orders.specs.Orders.{verb_of, read_order}
+use Rattle.orders.specs.Orders.{verb_of}
 use Rattle.orders.proofs.Decided.{wrong_order, six_order}
 use Rattle.orders.proofs.orders.read_order.Goals as goal
 

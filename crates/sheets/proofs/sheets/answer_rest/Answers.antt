@@ -1,4 +1,4 @@
-use Rattle.std.proofs.Common.{◌≡◌, ◌+◌, ◌-◌, ◌≤◌, ◌++◌, length, take, vec_items, sym, ap, ◌∙◌, arith, rules}
+use Rattle.std.proofs.Common.{◌+◌, ◌++◌, take, vec_items, ap, ◌∙◌, rules}
 use native.Mathlib.Nat.{sub-zero}
 use Rattle.ring.specs.Views.{viewed, sizes}
 use Rattle.lines.specs.Reading.{left_of}

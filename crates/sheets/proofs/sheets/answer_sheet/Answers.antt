@@ -1,13 +1,9 @@
-use Rattle.std.proofs.Common.{◌≡◌, ℕ, ◌+◌, ◌-◌, ◌≤◌, List, ◌++◌, length, take, Ok, vec_items, Result, sym, ap, ◌∙◌, subst, arith, lit≤, rules}
+use Rattle.std.proofs.Common.{◌+◌, ◌++◌, take, Ok, vec_items, ap, ◌∙◌, lit≤, rules}
 use native.Mathlib.Nat.{sub-zero}
-use Rattle.faults.specs.declared.Fault.{Fault}
 use Rattle.ring.specs.Views.{viewed, sizes}
 use Rattle.lines.specs.Reading.{left_of}
-use Rattle.sheets.specs.declared.heads.Opening.{Opening}
 use Rattle.sheets.specs.declared.heads.Opening.TheVariants.{Ready, Closed}
-use Rattle.sheets.specs.Heads.{head_in}
-use Rattle.sheets.specs.Sheets.{lines_read, order_lines, orders_text}
-use Rattle.sheets.specs.Answers.{OpenedAs, OpensSheet}
+use Rattle.sheets.specs.Sheets.{orders_text}
 use Rattle.sheets.proofs.Wholes.{closed_within, closed_text, ready_text, opened_as}
 use Rattle.sheets.proofs.sheets.answer_sheet.Goals as goal
 use Rattle.sheets.proofs.sheets.answer_sheet.Goals.{in-Ready+in_ok-answer_rest-in-Ready, in-Closed+in_ok-extend_from_slice-in-Closed}

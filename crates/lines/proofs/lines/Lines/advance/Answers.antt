@@ -1,5 +1,5 @@
-use Rattle.std.proofs.Common.{◌≡◌, ◌+◌, ◌<◌, ◌≤◌, ◌∷◌, length, sym, refl, ap, ◌∙◌, arith}
-use Rattle.lines.specs.Texts.{lines_of, up_to, past, line_end}
+use Rattle.std.proofs.Common.{◌≡◌, ◌∷◌, length, sym, refl, ap, ◌∙◌, arith}
+use Rattle.lines.specs.Texts.{lines_of, past, line_end}
 use Rattle.lines.proofs.Cutting.{none_tested, some_tested, lines_cut_some, past_less, up_to_shorter}
 use Rattle.lines.proofs.lines.Lines.advance.Goals as goal
 
