@@ -6,6 +6,7 @@ It makes random runs of calls and works out each answer, and what table, shelf a
     model.py --count    says how many calls there are, and how often each answer comes
 """
 import random
+import re
 import sys
 from collections import Counter
 
@@ -317,28 +318,38 @@ def run_text(name, ring, run):
         "    " + listed(message_text(m) for m in ring.post), ""])
 
 
-HEADER = """-- {0} Made by scripts/model.py; not to be edited.
-use mathlib.Core.List.{{List, [], _∷_}}
-use Rattle·faults.specs.declared.Fault.the-variants.{{Identifier, Replica, OnTable, TableFull, NotMember, NoMember, OnlyMember, NotSettled, QuestionsOpen, ShelfFull, PostFull, NoMessage, NoQuestion}}
-use Rattle·messages.specs.declared.Message.the-variants.{{RetrieveItems, Replicate, AddItem, GetItem}}
-use Rattle·rules.specs.declared.PeerState.the-variants.{{Settled, Filling, Giving, Leaving}}
-use Rattle·rules.specs.declared.Call.the-variants.{{Join, Leave, Insert, Lookup, Deliver, Collect}}
-use Rattle·rules.specs.declared.Answer.the-variants.{{Done, Inserted, Opened, Asked, Moved, Sent, Kept, Older, Answered, Found, Nothing, NotYet, Withdrawn, Refused}}
-use Rattle·rules.specs.State.{{peer}}
-use Rattle·rule_checks·specs.Worked.{{Worked, worked, settings, kept}}
+IMPORTS = [
+    ("Rattle.std.specs.Prelude", "List [] ◌∷◌"),
+    ("Rattle.faults.specs.declared.Fault.TheVariants", "Identifier Replica OnTable TableFull NotMember NoMember OnlyMember NotSettled "
+     "NumbersSpent QuestionsOpen ShelfFull PostFull NoMessage NoQuestion"),
+    ("Rattle.messages.specs.declared.Message.TheVariants", "RetrieveItems Replicate AddItem GetItem"),
+    ("Rattle.rules.specs.declared.PeerState.TheVariants", "Settled Filling Giving Leaving"),
+    ("Rattle.rules.specs.declared.Call.TheVariants", "Join Leave Insert Lookup Deliver Collect"),
+    ("Rattle.rules.specs.declared.Answer.TheVariants", "Done Inserted Opened Asked Moved Sent Kept Older Answered Found Nothing NotYet Withdrawn Refused"),
+    ("Rattle.rules.specs.State", "peer"),
+    ("Rattle.rule_checks.specs.Worked", "Worked worked settings kept"),
+]
 
-"""
+
+def import_lines(body):
+    """The imports that a file's text needs: the check refuses none, but one that nothing uses is dropped."""
+    used = set(re.findall(r"\w+|\[\]", body)) | {"◌∷◌"}
+    for module, names in IMPORTS:
+        needed = [name for name in names.split() if name in used]
+        if needed:
+            yield f"use {module}.{{{', '.join(needed)}}}\n"
 
 
 def file_text(title, runs):
     body = "\n".join("abbrev " + run_text(name, ring, run) for name, ring, run in runs)
     names = listed(name for name, _, _ in runs)
-    return HEADER.format(title) + body + f"\nabbrev pub runs : List Worked\nruns = {names}\n"
+    body += f"\nabbrev pub runs : List Worked\nruns = {names}\n"
+    return f"-- {title} Made by scripts/model.py; not to be edited.\n" + "".join(import_lines(body)) + "\n" + body
 
 
 def main():
-    special = [("week", *week()), ("full-table", *full_table()), ("full-questions", *full_questions())]
-    plain = [(f"run-{n}", ring, run) for n, (ring, run) in enumerate(all_runs(), 1)]
+    special = [("week", *week()), ("full_table", *full_table()), ("full_questions", *full_questions())]
+    plain = [(f"run_{n}", ring, run) for n, (ring, run) in enumerate(all_runs(), 1)]
     if sys.argv[1:] == ["--count"]:
         seen = Counter()
         for _, _, run in special + plain:
