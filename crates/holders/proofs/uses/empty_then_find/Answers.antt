@@ -1,8 +1,8 @@
-use Rattle.std.proofs.Common.{refl, ap, ◌∙◌}
+use Rattle.std.proofs.Common.{refl, ap, ◌∙◌, arith}
 use Rattle.copies.specs.Copies.{find}
 use Rattle.holders.proofs.Refusals.{nothing_kept}
 use Rattle.holders.proofs.uses.empty_then_find.Goals as goal
 
 pub returns : goal.returns
 returns g c =
-    c.find.ensures.value ∙ ap (λ m. find m c.args.at) (nothing_kept _ _ _ c.find.ensures.kept refl c.empty.ensures.kept)
+    c.find.ensures.value ∙ ap (λ m. find m c.args.at) (nothing_kept _ _ _ c.find.ensures.kept refl (omega arith))

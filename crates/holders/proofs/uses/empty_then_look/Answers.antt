@@ -1,8 +1,8 @@
-use Rattle.std.proofs.Common.{refl, ap, ◌∙◌}
+use Rattle.std.proofs.Common.{refl, ap, ◌∙◌, arith}
 use Rattle.std.specs.List.{slice_get}
 use Rattle.holders.proofs.Refusals.{nothing_kept}
 use Rattle.holders.proofs.uses.empty_then_look.Goals as goal
 
 pub returns : goal.returns
 returns g c =
-    c.look.ensures.value ∙ ap (λ m. slice_get m c.args.n) (nothing_kept _ _ _ c.look.ensures.kept refl c.empty.ensures.kept)
+    c.look.ensures.value ∙ ap (λ m. slice_get m c.args.n) (nothing_kept _ _ _ c.look.ensures.kept refl (omega arith))
