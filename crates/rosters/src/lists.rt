@@ -1,5 +1,5 @@
 // A roster as the list of its entries.
-ghost use Rattle.std.specs.Prelude.{◌≡◌, not, leb, List, [], ◌∷◌, ◌++◌, length, if◌then◌else◌, nat_le};
+ghost use Rattle.std.specs.Prelude.{◌≡◌, not, List, [], ◌∷◌, ◌++◌, length, if◌then◌else◌, nat_le};
 ghost use Rattle.rosters.specs.Rows.{first_with, replaced_with, dropped_with};
 ghost use Rattle.rosters.specs.Rosters.{listed, most_entries};
 
@@ -47,7 +47,7 @@ impl<T: Keyed + Copy> Roster<T> {
     // One more entry at the end, unless it is full: whether there was room.
     pub fn push(&mut self, entry: T) -> bool
         ensures value { result ≡ not (nat_le most_entries (length (listed self.old))) }
-        ensures after { listed self.new ≡ (if leb most_entries (length (listed self.old)) then listed self.old else listed self.old ++ entry ∷ []) }
+        ensures after { listed self.new ≡ (if nat_le most_entries (length (listed self.old)) then listed self.old else listed self.old ++ entry ∷ []) }
     {
         if self.count >= MOST_ENTRIES {
             return false;

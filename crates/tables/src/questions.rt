@@ -1,5 +1,5 @@
 // The open questions.
-ghost use Rattle.std.specs.Prelude.{◌≡◌, not, leb, List, [], ◌∷◌, ◌++◌, length, if◌then◌else◌, nat_le};
+ghost use Rattle.std.specs.Prelude.{◌≡◌, not, List, [], ◌∷◌, ◌++◌, length, if◌then◌else◌, nat_le};
 ghost use Rattle.rules.specs.State.{reply_to, with_reply, closed};
 ghost use Rattle.rules.specs.Refusals.{most_open};
 ghost use Rattle.tables.specs.Tables.{questions_of};
@@ -56,7 +56,7 @@ impl Questions {
     // One more question at the end, unless as many are open as may be: whether there was room.
     pub fn push(&mut self, question: Question) -> bool
         ensures value { result ≡ not (nat_le most_open (length (questions_of self.old))) }
-        ensures after { questions_of self.new ≡ (if leb most_open (length (questions_of self.old)) then questions_of self.old else questions_of self.old ++ question ∷ []) }
+        ensures after { questions_of self.new ≡ (if nat_le most_open (length (questions_of self.old)) then questions_of self.old else questions_of self.old ++ question ∷ []) }
     {
         self.asked.push(question)
     }

@@ -1,5 +1,5 @@
 // The table of peers.
-ghost use Rattle.std.specs.Prelude.{◌≡◌, not, leb, List, [], ◌∷◌, ◌++◌, length, if◌then◌else◌, nat_le};
+ghost use Rattle.std.specs.Prelude.{◌≡◌, not, List, [], ◌∷◌, ◌++◌, length, if◌then◌else◌, nat_le};
 ghost use Rattle.circle.specs.Owners.{owner, successor, predecessor};
 ghost use Rattle.rules.specs.State.{members, state_of, with_state, without};
 ghost use Rattle.rules.specs.Refusals.{most_peers, is_empty};
@@ -57,7 +57,7 @@ impl Table {
     // One more peer at the end, unless the table is full: whether there was room.
     pub fn push(&mut self, peer: Peer) -> bool
         ensures value { result ≡ not (nat_le most_peers (length (peers_of self.old))) }
-        ensures after { peers_of self.new ≡ (if leb most_peers (length (peers_of self.old)) then peers_of self.old else peers_of self.old ++ peer ∷ []) }
+        ensures after { peers_of self.new ≡ (if nat_le most_peers (length (peers_of self.old)) then peers_of self.old else peers_of self.old ++ peer ∷ []) }
     {
         self.peers.push(peer)
     }
