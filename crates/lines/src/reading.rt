@@ -16,6 +16,7 @@ impl<'s> Lines<'s> {
     pub fn new(sheet: &'s [u8]) -> Lines<'s>
         ensures rest { left_of result ≡ lines_of (take sheet_limit sheet.now) }
         ensures number { result.number ≡ 0 }
+        ensures line { line_of result ≡ [] }
     {
         let end = sheet.len().min(SHEET_LIMIT);
         Lines {
@@ -44,6 +45,7 @@ impl<'s> Lines<'s> {
         ensures rest { left_of self.new ≡ [] }
         ensures bytes { bytes_left self.new ≡ 0 }
         ensures number { self.new.number ≡ self.old.number }
+        ensures line { line_of self.new ≡ line_of self.old }
     {
         self.rest = &[];
     }

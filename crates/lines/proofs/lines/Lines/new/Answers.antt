@@ -8,4 +8,5 @@ pub returns : goal.returns
 returns c = record {
   rest = ap lines_of (ap (λ n. take n c.args.sheet.now) (sub-zero c.min-end.result ∙ c.min-end.ensures) ∙ take_min c.args.sheet.now sheet_limit);
   number = refl;
+  line = refl;
 }
