@@ -332,7 +332,7 @@ IMPORTS = [
 
 
 def import_lines(body):
-    """The imports that a file's text needs: the check refuses none, but one that nothing uses is dropped."""
+    """The imports of the names that a file uses, and of no others, as `rt tidy` leaves them."""
     used = set(re.findall(r"\w+|\[\]", body)) | {"◌∷◌"}
     for module, names in IMPORTS:
         needed = [name for name in names.split() if name in used]
