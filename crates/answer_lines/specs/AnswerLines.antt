@@ -1,5 +1,5 @@
 -- The line of text that tells a call's answer. Assumes nothing.
-use Rattle.std.specs.Prelude.{ℕ, cond, List, [], ◌∷◌, ◌++◌, length, drop, is_some, Some, None, codes, decimal, Option}
+use Rattle.std.specs.Prelude.{ℕ, List, [], ◌∷◌, ◌++◌, length, drop, Some, None, codes, decimal, Option}
 use Rattle.faults.specs.Faults.{number_of, figure_of as fault_figure}
 use Rattle.rules.specs.declared.Answer.{Answer}
 use Rattle.rules.specs.declared.Answer.TheVariants.{Done, Inserted, Opened, Asked, Moved, Sent, Kept, Older, Answered, Found, Nothing, NotYet, Withdrawn, Refused}
@@ -62,10 +62,6 @@ value_of (Refused fault) = Some (fault_figure fault)
 abbrev pub shown : Option ℕ → List ℕ
 shown None = 45 ∷ []
 shown (Some n) = decimal n
-
--- the most digits of a figure: beside a value there are fewer
-abbrev pub width_of : Answer → ℕ
-width_of a = cond (is_some (value_of a)) 10 20
 
 -- line, result, figure and value, parted by commas, and LF
 unfoldable pub answer_line : ℕ → Answer → List ℕ

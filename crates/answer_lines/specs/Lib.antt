@@ -1,2 +1,1 @@
 pub mod AnswerLines
-pub mod Puts

@@ -1,1 +1,3 @@
-pub mod Turns
+pub mod Nearest
+pub mod Kept
+pub mod Rows

@@ -1,3 +1,2 @@
 pub mod Settled
 pub mod Checks
-pub mod Ways

@@ -3,10 +3,11 @@ ghost use Rattle.std.specs.Prelude.{◌≡◌, ◌/◌, List, [], ◌∷◌};
 ghost use Rattle.faults.specs.Checks.{answered, first_fault};
 ghost use Rattle.circle.specs.Circle.{distance, in_arc, place};
 ghost use Rattle.arithmetic.specs.Settled.{MadeOf};
-ghost use Rattle.arithmetic.specs.Checks.{identifier_check, replica_check, place_in_row, place_row, places_of};
+ghost use Rattle.arithmetic.specs.Checks.{identifier_check, replica_check, place_row, places_of};
 
 use crate::settings::{LARGEST_SIZE, MOST_COPIES, Settings};
 use faults::Fault;
+use std::array;
 
 impl Settings {
     // Settings of these two numbers, whatever they are.
@@ -37,7 +38,7 @@ impl Settings {
         self.copies
     }
 
-    // A number as an identifier of this ring.
+    // A number as an identifier of this ring. (It is tested before the cast: a size of 65,536 is beyond any u16.)
     pub fn identifier(self, number: u64) -> Result<u16, Fault>
         ensures { result ≡ answered (identifier_check self.size number ∷ []) number }
     {
@@ -47,7 +48,18 @@ impl Settings {
         Ok(number as u16)
     }
 
+    // A number as a replica, which counts from 1.
+    pub fn replica(self, number: u64) -> Result<u8, Fault>
+        ensures { result ≡ answered (replica_check self.copies number ∷ []) number }
+    {
+        if number == 0 || number > self.copies as u64 {
+            return Err(Fault::Replica);
+        }
+        Ok(number as u8)
+    }
+
     // How far it is from one identifier to another, clockwise.
+    #[tactic(auto, using(std::proofs::lemmas::Bool::Decides::nat_tests), unfolding(circle::specs::Circle::distance))]
     pub fn distance(self, from: u16, to: u16) -> u32
         ensures { result ≡ distance self.size from to }
     {
@@ -59,17 +71,16 @@ impl Settings {
     }
 
     // Whether an identifier lies after `start`, and not after `end`.
+    #[tactic(auto, using(std::proofs::lemmas::Bool::Decides::nat_tests), unfolding(circle::specs::Circle::in_arc))]
     pub fn in_arc(self, start: u16, end: u16, identifier: u16) -> bool
         ensures { result ≡ in_arc self.size start end identifier }
     {
         let far = self.distance(start, identifier);
-        let whole = self.distance(start, end);
-        let after = 0 < far;
-        let within = far <= whole;
-        after && within
+        0 < far && far <= self.distance(start, end)
     }
 
     // The place of an item for a replica, counted from 1: copies stand evenly spaced.
+    #[tactic(auto, unfolding(circle::specs::Circle::place))]
     pub fn place_of(self, item: u16, replica: u8) -> u16
         ensures { result ≡ place self.size self.copies item replica }
     {
@@ -83,35 +94,25 @@ impl Settings {
         ensures { result ≡ answered (identifier_check self.size item ∷ (replica_check self.copies replica ∷ [])) (place self.size self.copies item replica) }
     {
         let item = self.identifier(item)?;
-        if replica == 0 || replica > self.copies as u64 {
-            return Err(Fault::Replica);
-        }
-        Ok(self.place_of(item, replica as u8))
-    }
-
-    // What stands at an index of an item's row of places: 0 beyond the last replica.
-    fn place_in_row(self, item: u16, index: usize) -> u16
-        ensures { result ≡ place_in_row self.size self.copies item index }
-    {
-        if index < self.copies as usize {
-            self.place_of(item, index as u8 + 1)
-        } else {
-            0
-        }
+        let replica = self.replica(replica)?;
+        Ok(self.place_of(item, replica))
     }
 
     // An item's places, replica 1 first, and 0 beyond the last.
     pub fn row_of(self, item: u16) -> [u16; MOST_COPIES]
         ensures { result ≡ place_row self.size self.copies item }
     {
-        let mut row = [0; MOST_COPIES];
-        for i in 0..MOST_COPIES {
-            row[i] = self.place_in_row(item, i);
-        }
-        row
+        array::from_fn(|i| {
+            if i < self.copies as usize {
+                self.place_of(item, i as u8 + 1)
+            } else {
+                0
+            }
+        })
     }
 
-    // An item's places for any number: zeros and the fault where it is no identifier.
+    // An item's places for any number. The rules want eight zeros beside the fault of what is no item, so the two are not one `Result`.
+    #[tactic(auto, unfolding(crate::specs::Checks::places_of))]
     pub fn places(self, item: u64) -> ([u16; MOST_COPIES], Option<Fault>)
         ensures row { result.0 ≡ places_of self.size self.copies item }
         ensures fault { result.1 ≡ first_fault (identifier_check self.size item ∷ []) }

@@ -5,5 +5,4 @@ mod identifiers;
 mod owners;
 mod settings;
 
-pub use owners::Way;
 pub use settings::{MOST_COPIES, Settings};

@@ -1,8 +1,7 @@
 -- The laws of distances on a ring. Assumes nothing.
-use Rattle.std.proofs.Common.{◌≡◌, ℕ, ◌+◌, ◌-◌, ◌%◌, ◌<◌, ◌≤◌, ◌⊎◌, sym, ◌∙◌, ⊎_elim, mod-eq_of_lt, arith}
+use Rattle.std.proofs.Common.{◌≡◌, ℕ, ◌+◌, ◌-◌, ◌%◌, ◌<◌, ◌≤◌, ◌⊎◌, mod-eq_of_lt, arith}
 use native.Mathlib.Nat.{mod-eq-sub-mod}
 use Rattle.std.proofs.lemmas.Bool.Decides.{nat_tests}
-use Rattle.std.proofs.lemmas.Bool.{cases_lt}
 use Rattle.circle.specs.Circle.{distance, InArc}
 use Rattle.circle.specs.Laws.{DistanceLawsHold}
 
@@ -27,13 +26,7 @@ pub distance_there_and_back : (n s i : ℕ) → s < n → i < n → (s ≡ i →
 distance_there_and_back n s i a b e = grind (arith, distance_cases n s i, distance_cases n i s)
 
 pub distance_is_mod : (n s i : ℕ) → s < n → i < n → distance n s i ≡ (i + n - s) % n
-distance_is_mod n s i a b = ⊎_elim
-    (λ h.
-    let round : n ≤ i + n - s = omega arith in
-    let less : i + n - s - n < n = omega arith in
-    h.1 ∙ sym (mod-eq-sub-mod round ∙ mod-eq_of_lt less ∙ omega arith))
-    (λ h. let less : i + n - s < n = omega arith in h.1 ∙ sym (mod-eq_of_lt less))
-    (distance_cases n s i)
+distance_is_mod n s i a b = grind (arith, distance_cases n s i, mod-eq-sub-mod, mod-eq_of_lt)
 
 pub distance_laws : DistanceLawsHold
 distance_laws n _ = record {
@@ -67,8 +60,7 @@ module _ (n a p i : ℕ) (a< : a < n) (p< : p < n) (i< : i < n) where
 
   -- outside the arc a comes before p
   pub outside_arc : (a ≡ p → ⊥) → (InArc n a p i → ⊥) → distance n i a < distance n i p
-  outside_arc other out =
-      ⊎_elim (λ h. h) (λ near. absurd (out (first_arc other near))) (cases_lt (distance n i a) (distance n i p))
+  outside_arc other out = grind (arith, first_arc)
 
 -- two identifiers at one distance are one
 pub distance_injective : (n i p q : ℕ) → i < n → p < n → q < n → distance n i p ≡ distance n i q → p ≡ q

@@ -1,6 +1,5 @@
 -- The laws of owners among any set of members. Assumes nothing.
-use Rattle.std.proofs.Common.{◌≡◌, ℕ, ◌+◌, ◌<◌, ◌≤◌, true, refl, ap, subst, inl, inr, ⊎_elim, arith}
-use Rattle.std.proofs.lemmas.Bool.{cases_eq}
+use Rattle.std.proofs.Common.{◌≡◌, ℕ, ◌+◌, ◌<◌, ◌≤◌, true, refl, ap, subst, inl, inr, arith}
 use Rattle.circle.specs.Circle.{distance, InArc}
 use Rattle.circle.specs.Owners.{Other, With, Owner, Successor, Predecessor}
 use Rattle.circle.specs.Laws.{OwnerLaws, OwnerLawsHold}
@@ -25,7 +24,7 @@ module _ (n : ℕ) (among : ℕ → Type 0) (below : (q : ℕ) → among q → q
     first here q m other = arc_first n a p i a< p< i< q (below q m) here (before.least q (m, other))
 
     first_of_all : InArc n a p i → (q : ℕ) → among q → distance n i p ≤ distance n i q
-    first_of_all here q m = ⊎_elim (λ (e : q ≡ p). omega (arith, ap (distance n i) e)) (first here q m) (cases_eq q p)
+    first_of_all here q m = grind (arith, first here q m)
 
     through : InArc n a p i → (q : ℕ) → among q → (q ≡ p → ⊥) → distance n i q ≡ distance n i p + distance n p q
     through here q m other = arc_through n a p i a< p< i< q (below q m) other here (before.least q (m, other))
@@ -39,7 +38,7 @@ module _ (n : ℕ) (among : ℕ → Type 0) (below : (q : ℕ) → among q → q
     join_in : InArc n a p i → Owner n (With among p) i p
     join_in here = record {
       member = inr refl;
-      least = λ q. ⊎_elim (first_of_all here q) (λ (e : q ≡ p). omega (arith, ap (distance n i) e));
+      least = λ q m. grind (arith, first_of_all here q);
     }
 
     leave_in : (c : ℕ) → Successor n among p c → InArc n a p i → Owner n (Other among p) i c
@@ -61,7 +60,7 @@ module _ (n : ℕ) (among : ℕ → Type 0) (below : (q : ℕ) → among q → q
     join_out : (q : ℕ) → (InArc n a p i → ⊥) → Owner n among i q → Owner n (With among p) i q
     join_out q out own = record {
       member = inl own.member;
-      least = λ m. ⊎_elim (own.least m) (λ (e : m ≡ p). omega (arith, ap (distance n i) e, outside out, own.least a before.member.0));
+      least = λ m h. grind (arith, own.least m, outside out, own.least a before.member.0);
     }
 
     leave_out : (q : ℕ) → (InArc n a p i → ⊥) → Owner n among i q → Owner n (Other among p) i q

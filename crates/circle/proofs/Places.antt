@@ -1,23 +1,16 @@
 -- The laws of an item's places. Assumes nothing.
-use Rattle.std.proofs.Common.{◌≡◌, ℕ, ◌+◌, ◌-◌, ◌*◌, ◌/◌, ◌%◌, ◌<◌, ◌≤◌, ◌⊎◌, sym, ap, ◌∙◌, inl, inr, ⊎_elim, add-zero, add_assoc, mul-le-mul_right, mod-lt, mod-eq_of_lt, add-mul, one-mul, mul-zero, zero-mul, arith}
+use Rattle.std.proofs.Common.{◌≡◌, ℕ, ◌+◌, ◌-◌, ◌*◌, ◌/◌, ◌%◌, ◌<◌, ◌≤◌, ◌⊎◌, sym, ap, ◌∙◌, add-zero, add_assoc, mul-le-mul_right, mod-lt, mod-eq_of_lt, add-mul, one-mul, mul-zero, zero-mul, arith}
 use native.Mathlib.Nat.{mod-eq-sub-mod, mod-add-mod, add-mod_right, div-add-mod}
-use Rattle.std.proofs.lemmas.Bool.{cases_lt}
 use Rattle.circle.specs.Circle.{place, item_at}
 use Rattle.circle.specs.Laws.{PlaceLaws, PlaceLawsHold}
 
 -- less than twice round is either as it is or once round
 pub mod_cases : (n x : ℕ) → x < n + n → ((x < n) × (x % n ≡ x)) ⊎ ((n ≤ x) × (x % n ≡ x - n))
-mod_cases n x h = ⊎_elim
-    (λ less. inl (less, mod-eq_of_lt less))
-    (λ more. let less : x - n < n = omega arith in inr (more, mod-eq-sub-mod more ∙ mod-eq_of_lt less))
-    (cases_lt x n)
+mod_cases n x h = grind (arith, mod-eq-sub-mod, mod-eq_of_lt)
 
 -- a step of t forward and the same step back, either way round
 back_from : (n k t : ℕ) → k < n → t ≤ n → ((k + t) % n + n - t) % n ≡ k
-back_from n k t k< t≤ = ⊎_elim
-    (λ on. let e : (k + t) % n + n - t ≡ k + n = omega arith in ap (λ x. x % n) e ∙ add-mod_right k n ∙ mod-eq_of_lt k<)
-    (λ on. let e : (k + t) % n + n - t ≡ k = omega arith in ap (λ x. x % n) e ∙ mod-eq_of_lt k<)
-    (mod_cases n (k + t) (omega arith))
+back_from n k t k< t≤ = grind (arith, mod-eq-sub-mod, mod-eq_of_lt)
 
 on_from : (n i t : ℕ) → i < n → t ≤ n → ((i + n - t) % n + t) % n ≡ i
 on_from n i t i< t≤ =
@@ -29,10 +22,7 @@ module _ (n f : ℕ) (n> : 0 < n) (f> : 0 < f) (divides : n % f ≡ 0) where
   round = omega (arith, div-add-mod n f)
 
   step_some : 0 < n / f
-  step_some = ⊎_elim (λ h. h) (λ none. absurd (none_left (omega arith))) (cases_lt 0 (n / f))
-    where
-      none_left : n / f ≡ 0 → ⊥
-      none_left e = let z : f * (n / f) ≡ f * 0 = ap (λ x. f * x) e in omega (arith, round, z, mul-zero f)
+  step_some = grind (arith, round, mul-zero f)
 
   -- r - 1 steps go at most once round
   reach : (r : ℕ) → r ≤ f → (r - 1) * (n / f) ≤ n
@@ -48,7 +38,7 @@ module _ (n f : ℕ) (n> : 0 < n) (f> : 0 < f) (divides : n % f ≡ 0) where
 
   -- some steps of n / f, fewer than go round, lead elsewhere
   elsewhere : (m b : ℕ) → m < n → 0 < b → b < n → m ≡ (m + b) % n → ⊥
-  elsewhere m b m< some less e = ⊎_elim (λ on. omega arith) (λ on. omega arith) (mod_cases n (m + b) (omega arith))
+  elsewhere m b m< some less e = grind (arith, mod_cases n (m + b))
 
   between : (r q : ℕ) → r < q → q - r < f → (0 < (q - r) * (n / f)) × ((q - r) * (n / f) < n)
   between r q less most =

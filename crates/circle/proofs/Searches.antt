@@ -1,6 +1,7 @@
 -- The search for the nearest member finds the one that is nearest. Assumes nothing.
-use Rattle.std.proofs.Common.{◌≡◌, ℕ, ◌<◌, ◌≤◌, Bool, true, false, cond, eqb, ltb, leb, ◌⊎◌, List, [], ◌∷◌, ◌++◌, Some, None, sym, refl, ap, ◌∙◌, inl, inr, ⊎_elim, arith}
-use Rattle.std.proofs.lemmas.Bool.{cases_lt, eqb-true, eqb-false, lt-ltb, le-ltb, both_ways, and_parts, and_from, ltb-true, leb-true, le-leb}
+use Rattle.std.proofs.Common.{◌≡◌, ℕ, ◌<◌, ◌≤◌, Bool, true, false, cond, ltb, List, [], ◌∷◌, ◌++◌, Some, None, sym, refl, ap, ◌∙◌, inl, inr, ⊎_elim, arith}
+use Rattle.std.proofs.lemmas.Bool.{cases_lt, lt-ltb, le-ltb, both_ways}
+use Rattle.std.proofs.lemmas.Bool.Decides.{nat_tests}
 use Rattle.circle.specs.Circle.{distance, InArc, in_arc}
 use Rattle.circle.specs.Owners.{Member, others, Least, Other, With, Owner, Successor, Predecessor, least_from, owner, successor, predecessor}
 use Rattle.circle.specs.Laws.{OwnerLaws, ListLaws, ListLawsHold}
@@ -16,25 +17,18 @@ InList members q = Member q members
 -- b is the least of itself and the list
 some_least : (key : ℕ → ℕ) (b : ℕ) (xs : List ℕ) (p : ℕ) → least_from key (Some b) xs ≡ Some p → Least key (InList (b ∷ xs)) p
 some_least key b [] p e =
-    let is : b ≡ p = cc in
-    record { member = inl (sym is); least = λ q. ⊎_elim (λ (s : q ≡ b). omega (arith, ap key s, ap key is)) (λ none. absurd none) }
+    let is : b ≡ p = cc in record { member = inl (sym is); least = λ q m. grind (arith, ap key is) }
 some_least key b (x ∷ xs) p e = ⊎_elim
     (λ (less : key x < key b).
     let rest = some_least key x xs p (ap (λ (t : Bool). least_from key (Some (cond t x b)) xs) (sym (lt-ltb (key x) (key b) less)) ∙ e) in
-    record {
-      member = inr rest.member;
-      least = λ q. ⊎_elim (λ (s : q ≡ b). omega (arith, ap key s, rest.least x (inl refl))) (rest.least q);
-    })
+    record { member = inr rest.member; least = λ q m. grind (arith, rest.least q, rest.least x (inl refl)) })
     (λ (more : key b ≤ key x).
     let rest = some_least key b xs p (ap (λ (t : Bool). least_from key (Some (cond t x b)) xs) (sym (le-ltb (key x) (key b) more)) ∙ e) in
-    record {
-      member = ⊎_elim inl (λ m. inr (inr m)) rest.member;
-      least = λ q. ⊎_elim (λ s. rest.least q (inl s)) (⊎_elim (λ (s : q ≡ x). omega (arith, ap key s, rest.least b (inl refl))) (λ m. rest.least q (inr m)));
-    })
+    record { member = grind (arith, rest.member); least = λ q m. grind (arith, rest.least q, rest.least b (inl refl)) })
     (cases_lt (key x) (key b))
 
 pub search_least : (key : ℕ → ℕ) (xs : List ℕ) (p : ℕ) → least_from key None xs ≡ Some p → Least key (InList xs) p
-search_least key [] p e = absurd (let z : ◌≡◌ {A = ℕ} 0 1 = cc in omega arith)
+search_least key [] p e = cc
 search_least key (x ∷ xs) p e = some_least key x xs p e
 
 -- with anything in the list something is found
@@ -44,9 +38,7 @@ some_found key b (x ∷ xs) = some_found key (cond (ltb (key x) (key b)) x b) xs
 
 pub search_none : (key : ℕ → ℕ) (xs : List ℕ) → least_from key None xs ≡ None → xs ≡ []
 search_none key [] e = refl
-search_none key (x ∷ xs) e =
-    let found = some_found key x xs in
-    absurd (let z : ◌≡◌ {A = ℕ} 0 1 = cc (found.1, e) in omega arith)
+search_none key (x ∷ xs) e = let found = some_found key x xs in cc (found.1, e)
 
 -- what is least and has a key of its own is found
 pub search_finds : (key : ℕ → ℕ) (xs : List ℕ) (p : ℕ) → ((q : ℕ) → Member q xs → key q ≡ key p → q ≡ p) → Least key (InList xs) p → least_from key None xs ≡ Some p
@@ -58,34 +50,23 @@ search_finds key (x ∷ xs) p own h =
 
 -- ---- the list without p
 
-others_test : (p q x : ℕ) (xs : List ℕ) (t : Bool) → eqb x p ≡ t → Member q (cond t (others p xs) (x ∷ others p xs)) → ((q ≡ x) × (x ≡ p → ⊥)) ⊎ Member q (others p xs)
-others_test p q x xs true e m = inr m
-others_test p q x xs false e m = ⊎_elim (λ s. inl (s, eqb-false x p e)) inr m
-
 pub others_in : (p q : ℕ) (xs : List ℕ) → Member q (others p xs) → Other (InList xs) p q
 others_in p q [] m = absurd m
-others_in p q (x ∷ xs) m = ⊎_elim
-    (λ (s, other). (inl s, λ e. other (sym s ∙ e)))
-    (λ rest. let h = others_in p q xs rest in (inr h.0, h.1))
-    (others_test p q x xs (eqb x p) refl m)
-
-in_test : (p q x : ℕ) (xs : List ℕ) (t : Bool) → eqb x p ≡ t → (q ≡ p → ⊥) → (q ≡ x) ⊎ Member q (others p xs) → Member q (cond t (others p xs) (x ∷ others p xs))
-in_test p q x xs true e other m = ⊎_elim (λ s. absurd (other (s ∙ eqb-true x p e))) (λ h. h) m
-in_test p q x xs false e other m = m
+others_in p q (x ∷ xs) m = grind (arith, nat_tests, others_in p q xs)
 
 pub in_others : (p q : ℕ) (xs : List ℕ) → Other (InList xs) p q → Member q (others p xs)
 in_others p q [] m = absurd m.0
-in_others p q (x ∷ xs) (m, other) = in_test p q x xs (eqb x p) refl other (⊎_elim inl (λ rest. inr (in_others p q xs (rest, other))) m)
+in_others p q (x ∷ xs) m = grind (arith, nat_tests, in_others p q xs)
 
 -- ---- the list with p at its end
 
 pub push_in : (p q : ℕ) (xs : List ℕ) → Member q (xs ++ p ∷ []) → With (InList xs) p q
 push_in p q [] m = ⊎_elim inr (λ none. absurd none) m
-push_in p q (x ∷ xs) m = ⊎_elim (λ s. inl (inl s)) (λ rest. ⊎_elim (λ h. inl (inr h)) inr (push_in p q xs rest)) m
+push_in p q (x ∷ xs) m = grind (arith, push_in p q xs)
 
 pub in_push : (p q : ℕ) (xs : List ℕ) → With (InList xs) p q → Member q (xs ++ p ∷ [])
 in_push p q [] m = ⊎_elim (λ none. absurd none) inl m
-in_push p q (x ∷ xs) m = ⊎_elim (⊎_elim inl (λ rest. inr (in_push p q xs (inl rest)))) (λ e. inr (in_push p q xs (inr e))) m
+in_push p q (x ∷ xs) m = grind (arith, in_push p q xs)
 
 -- a set may be told by another with the same members
 pub least_same : (key : ℕ → ℕ) (A B : ℕ → Type 0) (p : ℕ) → ((q : ℕ) → A q → B q) → ((q : ℕ) → B q → A q) → Least key A p → Least key B p
@@ -95,14 +76,11 @@ least_same key A B p to from h = record { member = to p h.member; least = λ q m
 
 pub in_arc_true : (n s e i : ℕ) → in_arc n s e i ≡ true → InArc n s e i
 unfolding in_arc
-in_arc_true n s e i h =
-    let both = and_parts (ltb 0 (distance n s i)) (leb (distance n s i) (distance n s e)) h in
-    (ltb-true 0 (distance n s i) both.0, leb-true (distance n s i) (distance n s e) both.1)
+in_arc_true n s e i h = grind (arith, nat_tests)
 
 pub true_in_arc : (n s e i : ℕ) → InArc n s e i → in_arc n s e i ≡ true
 unfolding in_arc
-true_in_arc n s e i (some, most) =
-    and_from (ltb 0 (distance n s i)) (leb (distance n s i) (distance n s e)) (lt-ltb 0 (distance n s i) some) (le-leb (distance n s i) (distance n s e) most)
+true_in_arc n s e i (some, most) = grind (arith, nat_tests)
 
 pub in_arc_false : (n s e i : ℕ) → in_arc n s e i ≡ false → InArc n s e i → ⊥
 in_arc_false n s e i h here = both_ways (in_arc n s e i) h (true_in_arc n s e i here)
@@ -151,7 +129,7 @@ module _ (n : ℕ) (members : List ℕ) (below : (q : ℕ) → Member q members 
   laws = owner_laws_at n (InList members) below
 
   pushed_below : (p : ℕ) → p < n → (q : ℕ) → Member q (members ++ p ∷ []) → q < n
-  pushed_below p p< q m = ⊎_elim (below q) (λ (e : q ≡ p). omega arith) (push_in p q members m)
+  pushed_below p p< q m = grind (arith, below q, push_in p q members)
 
   others_below : (p q : ℕ) → Member q (others p members) → q < n
   others_below p q m = below q (others_in p q members m).0

@@ -1,5 +1,6 @@
 -- Facts about what a shelf holds: find after put and remove, order, counting, next, and that find tells all.
 use Rattle.std.proofs.Common.{◌≡◌, ℕ, suc, ◌+◌, true, false, cond, List, [], ◌∷◌, length, Some, None, Option, sym, refl, ap, ◌∙◌, subst, ⊎_elim, add-one, arith}
+use Rattle.std.proofs.lemmas.Option.{same_Some}
 use Rattle.std.specs.List.{AllByRecursion}
 use Rattle.std.proofs.ByRecursion.{All-weaker}
 use Rattle.std.proofs.lemmas.Bool.{cond-true, cond-false, cond_both, cases_Bool, both_ways}
@@ -12,9 +13,6 @@ use Rattle.copies.proofs.Coordinates.{same_itself, equal_from_same, same_flip, a
 -- an entry is not none
 pub some_none : {X : Type 0} {v : X} → ◌≡◌ {A = Option X} (Some v) None → ⊥
 some_none h = let z : ◌≡◌ {A = ℕ} 0 1 = cc in omega arith
-
-pub some_same : {X : Type 0} (v w : X) → ◌≡◌ {A = Option X} (Some v) (Some w) → v ≡ w
-some_same v w h = cc
 
 -- ---- by cases of the tests that find, put, remove and next make
 
@@ -167,7 +165,7 @@ tails_agree x y xs ys e o q h c =
 
 first_agrees : (x y : CopyRecord) (xs ys : List CopyRecord) → x.at ≡ y.at → ((c : Coordinate) → find (x ∷ xs) c ≡ find (y ∷ ys) c) → x ≡ y
 first_agrees x y xs ys e h =
-    let held : x.held ≡ y.held = some_same x.held y.held (sym (find_here x xs x.at (same_itself x.at)) ∙ (h x.at ∙ find_here y ys x.at (subst (λ a. same a x.at ≡ true) e (same_itself x.at)))) in
+    let held : x.held ≡ y.held = same_Some x.held y.held (sym (find_here x xs x.at (same_itself x.at)) ∙ (h x.at ∙ find_here y ys x.at (subst (λ a. same a x.at ≡ true) e (same_itself x.at)))) in
     ap (λ a. copy a x.held) e ∙ ap (λ v. copy y.at v) held
 
 -- the first of one list cannot come before all of the other
@@ -200,7 +198,7 @@ pub next_all : (P : CopyRecord → Type 0) (xs : List CopyRecord) (p low high : 
 next_all P [] p low high y a h = absurd (some_none (sym h))
 next_all P (x ∷ xs) p low high y a h =
     ⊎_elim
-    (λ r. subst P (some_same x y (sym (next_here x xs p low high r) ∙ h)) a.0)
+    (λ r. subst P (same_Some x y (sym (next_here x xs p low high r) ∙ h)) a.0)
     (λ r. next_all P xs p low high y a.1 (sym (next_there x xs p low high r) ∙ h))
     (cases_Bool (in_range p low high x))
 
@@ -208,7 +206,7 @@ pub next_in_range : (xs : List CopyRecord) (p low high : ℕ) (y : CopyRecord) �
 next_in_range [] p low high y h = absurd (some_none (sym h))
 next_in_range (x ∷ xs) p low high y h =
     ⊎_elim
-    (λ r. subst (λ z. in_range p low high z ≡ true) (some_same x y (sym (next_here x xs p low high r) ∙ h)) r)
+    (λ r. subst (λ z. in_range p low high z ≡ true) (same_Some x y (sym (next_here x xs p low high r) ∙ h)) r)
     (λ r. next_in_range xs p low high y (sym (next_there x xs p low high r) ∙ h))
     (cases_Bool (in_range p low high x))
 
@@ -216,7 +214,7 @@ pub next_found : (xs : List CopyRecord) (p low high : ℕ) (y : CopyRecord) → 
 next_found [] p low high y o h = absurd (some_none (sym h))
 next_found (x ∷ xs) p low high y o h =
     ⊎_elim
-    (λ r. let e : x ≡ y = some_same x y (sym (next_here x xs p low high r) ∙ h) in subst (λ z. find (x ∷ xs) z.at ≡ Some z.held) e (find_here x xs x.at (same_itself x.at)))
+    (λ r. let e : x ≡ y = same_Some x y (sym (next_here x xs p low high r) ∙ h) in subst (λ z. find (x ∷ xs) z.at ≡ Some z.held) e (find_here x xs x.at (same_itself x.at)))
     (λ r. let e : next xs p low high ≡ Some y = sym (next_there x xs p low high r) ∙ h in find_there x xs y.at (apart_from_before x.at y.at (next_all (λ z. before x.at z.at ≡ true) xs p low high y o.0 e)) ∙ next_found xs p low high y o.1 e)
     (cases_Bool (in_range p low high x))
 
@@ -230,9 +228,9 @@ pub next_first : (xs : List CopyRecord) (p low high : ℕ) (y : CopyRecord) (d :
 next_first [] p low high y d e o h f r = absurd (some_none (sym h))
 next_first (x ∷ xs) p low high y d e o h f r =
     by_same x.at d
-    (λ s. let i : in_range p low high x ≡ true = sym (in_range_at p low high x d e s) ∙ r in subst (λ z. before d z.at ≡ false) (some_same x y (sym (next_here x xs p low high i) ∙ h)) (subst (λ a. before a x.at ≡ false) s (not_before_itself x.at)))
+    (λ s. let i : in_range p low high x ≡ true = sym (in_range_at p low high x d e s) ∙ r in subst (λ z. before d z.at ≡ false) (same_Some x y (sym (next_here x xs p low high i) ∙ h)) (subst (λ a. before a x.at ≡ false) s (not_before_itself x.at)))
     (λ n. let g : find xs d ≡ Some e = sym (find_there x xs d n) ∙ f in ⊎_elim
-    (λ i. subst (λ z. before d z.at ≡ false) (some_same x y (sym (next_here x xs p low high i) ∙ h)) (⊎_elim (λ b. absurd (some_none (sym g ∙ absent_before xs d (all_before x d xs b o.0)))) (λ b. b) (cases_Bool (before d x.at))))
+    (λ i. subst (λ z. before d z.at ≡ false) (same_Some x y (sym (next_here x xs p low high i) ∙ h)) (⊎_elim (λ b. absurd (some_none (sym g ∙ absent_before xs d (all_before x d xs b o.0)))) (λ b. b) (cases_Bool (before d x.at))))
     (λ i. next_first xs p low high y d e o.1 (sym (next_there x xs p low high i) ∙ h) g r)
     (cases_Bool (in_range p low high x)))
   where

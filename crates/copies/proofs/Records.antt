@@ -1,5 +1,6 @@
 -- Copies in any order, no coordinate twice: what adding at the end, overwriting and removing make of their meaning.
 use Rattle.std.proofs.Common.{◌≡◌, ℕ, suc, ◌<◌, true, false, cond, not, ◌⊎◌, List, [], ◌∷◌, ◌++◌, length, get_or, set, is_some, Some, None, Option, sym, refl, ap, ◌∙◌, subst, inl, inr, add-one, arith}
+use Rattle.std.proofs.lemmas.Option.{same_Some}
 use Rattle.std.specs.List.{remove as removed}
 use Rattle.std.proofs.lemmas.Bool.{cond-true, cond-false, cond_both, both_ways, and_parts, and_from}
 use Rattle.copies.specs.declared.Coordinate.{Coordinate}
@@ -7,7 +8,7 @@ use Rattle.copies.specs.declared.Entry.{Entry}
 use Rattle.copies.specs.declared.CopyRecord.{CopyRecord}
 use Rattle.copies.specs.Copies.{same, copy, Ordered, find, put, remove, next, from_records, apart, position, nearer_in_range, first_in_range}
 use Rattle.copies.proofs.Coordinates.{equal_from_same, same_flip}
-use Rattle.copies.proofs.Facts.{some_none, some_same, find_here, find_there, absent_parts, find_after_put, find_after_remove, ordered_put, ordered_remove, length_put_absent, equal_from_find, next_put_absent}
+use Rattle.copies.proofs.Facts.{some_none, find_here, find_there, absent_parts, find_after_put, find_after_remove, ordered_put, ordered_remove, length_put_absent, equal_from_find, next_put_absent}
 
 -- ---- tests of presence
 
@@ -84,7 +85,7 @@ pub position_held : (rs : List CopyRecord) (c : Coordinate) (v : Entry) (d : Cop
 position_held [] c v d h = absurd (some_none (sym h))
 position_held (x ∷ xs) c v d h =
     by_position x xs c (λ n. (get_or (x ∷ xs) n d).held ≡ v)
-    (λ s. some_same x.held v (sym (find_here x xs c s) ∙ h))
+    (λ s. same_Some x.held v (sym (find_here x xs c s) ∙ h))
     (λ n. position_held xs c v d (sym (find_there x xs c n) ∙ h))
 
 -- ---- the three changes, as find sees them

@@ -4,15 +4,16 @@
 ghost use Rattle.std.specs.Prelude.{◌≡◌};
 ghost use Rattle.faults.specs.Faults.{number_of, layer_of, figure_of, layer_number};
 
+use std::error::Error;
 use std::fmt;
 
-// The part of the library that refuses.
+// The part of the library that refuses, by its number.
 #[derive(Clone, Copy, PartialEq, Eq, Debug)]
 pub enum Layer {
-    Sheet,
-    Ring,
-    Shelf,
-    Post,
+    Sheet = 1,
+    Ring = 2,
+    Shelf = 3,
+    Post = 4,
 }
 
 // Every refusal there is, in the order of its number. A case holds its figure where it has one.
@@ -64,16 +65,12 @@ impl Layer {
     pub fn number(self) -> u8
         ensures { result ≡ layer_number self }
     {
-        match self {
-            Layer::Sheet => 1,
-            Layer::Ring => 2,
-            Layer::Shelf => 3,
-            Layer::Post => 4,
-        }
+        self as u8
     }
 }
 
 impl Fault {
+    // (a match, since cases that hold a figure cannot be given numbers of their own)
     pub fn number(self) -> u8
         ensures { result ≡ number_of self }
     {
@@ -104,10 +101,10 @@ impl Fault {
     pub fn layer(self) -> Layer
         ensures { result ≡ layer_of self }
     {
-        match self.number() {
-            1..=3 => Layer::Sheet,
-            17 => Layer::Shelf,
-            18 => Layer::Post,
+        match self {
+            Fault::AnswerMemory | Fault::WrongFields(_) | Fault::Unreadable(_) => Layer::Sheet,
+            Fault::ShelfFull(_) => Layer::Shelf,
+            Fault::PostFull(_) => Layer::Post,
             _ => Layer::Ring,
         }
     }
@@ -125,7 +122,7 @@ impl Fault {
         }
     }
 
-    // What the refusal says to a person.
+    // What the refusal says to a person: one table, which a derive would spread over the cases.
     fn words(self) -> &'static str {
         match self {
             Fault::AnswerMemory => "the memory for an answer line is too short",
@@ -151,6 +148,8 @@ impl Fault {
         }
     }
 }
+
+impl Error for Fault {}
 
 impl fmt::Display for Fault {
     fn fmt<W: fmt::Write>(&self, f: &mut fmt::Formatter<W>) -> fmt::Result {

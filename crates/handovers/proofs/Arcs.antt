@@ -1,63 +1,47 @@
 -- An arc is one range of places, or two where it passes 0. Assumes nothing.
-use Rattle.std.proofs.Common.{◌≡◌, ℕ, ◌+◌, ◌-◌, ◌<◌, ◌≤◌, Bool, true, false, cond, ◌&&◌, eqb, ltb, leb, List, [], ◌∷◌, ◌++◌, length, fold, sym, refl, ap, ◌∙◌, append_assoc, arith, length-append}
+use Rattle.std.proofs.Common.{◌≡◌, ℕ, ◌+◌, ◌-◌, ◌<◌, ◌≤◌, Bool, true, false, cond, ◌&&◌, ◌⊎◌, inl, inr, eqb, leb, List, [], ◌∷◌, ◌++◌, length, fold, refl, ap, ◌∙◌, arith, length-append}
 use Rattle.std.specs.List.{AllByRecursion}
 use Rattle.std.proofs.ByRecursion.{All-weaker, kept_by_passes}
-use Rattle.std.proofs.lemmas.Bool.{eq-eqb, ne_eqb, lt-ltb, le-ltb, and_right, and_parts, lt-leb, leb-true, cond-true, cond-false, both_ways}
+use Rattle.std.proofs.lemmas.Bool.{eq-eqb, ne_eqb, lt-ltb, le-ltb, and_right, and_parts, lt-leb, leb-true, both_ways}
 use Rattle.std.proofs.lemmas.Bool.Decides.{nat_tests}
 use Rattle.copies.specs.declared.CopyRecord.{CopyRecord}
-use Rattle.copies.specs.declared.Edit.{Edit}
 use Rattle.copies.specs.Copies.{in_range}
+use Rattle.holders.specs.declared.holder.Holder.{Ghosts as Holding}
+use Rattle.holders.specs.declared.shelf.Shelf.{Ghosts as Shelving}
+use Rattle.holders.specs.Shelves.{Edited}
 use Rattle.rules.specs.Handover.{moved, owed, handed, handover}
-use Rattle.rules.specs.Edits.{move_edits, moves_edits, handover_edits}
-use Rattle.handovers.proofs.Ranges.{left, folded_append, in_range_by_place, in_range_other, kept_by_remove, kept_by_moved}
+use Rattle.rules.specs.Edits.{handover_edits}
+use Rattle.handovers.specs.Moves.{Moves}
+use Rattle.handovers.proofs.Moving.{moves_then}
+use Rattle.handovers.proofs.Ranges.{left, in_range_by_place, in_range_other, kept_by_remove, kept_by_moved}
 
 -- ---- which copies are handed over
 
 module _ (n x g a e : ℕ) (sh : List CopyRecord) where
-  pub handed_self : x ≡ g → handed n x g a e sh ≡ []
-  unfolding handed
-  handed_self is = cond-true (eqb x g) [] (owed n g a e sh) (eq-eqb x g is)
-
-  handed_other : (x ≡ g → ⊥) → handed n x g a e sh ≡ owed n g a e sh
-  unfolding handed
-  handed_other other = cond-false (eqb x g) [] (owed n g a e sh) (ne_eqb x g other)
+  pub handed_none : (x ≡ g) ⊎ ((x ≡ g → ⊥) × (a ≡ e)) → handed n x g a e sh ≡ []
+  unfolding handed owed
+  handed_none = elim [
+    | inl is ↦ simp (eq-eqb x g is)
+    | inr h ↦
+        let ahead : e ≤ a = omega (arith, h.1) in
+        let behind : a ≤ e = omega (arith, h.1) in
+        simp (ne_eqb x g h.0, le-ltb a e ahead, le-ltb e a behind)
+  ]
 
   pub handed_forward : (x ≡ g → ⊥) → a < e → handed n x g a e sh ≡ left g (a + 1) e sh
-  unfolding owed
-  handed_forward other less = handed_other other ∙ cond-true (ltb a e) _ _ (lt-ltb a e less)
+  unfolding handed owed
+  handed_forward other less = simp (ne_eqb x g other, lt-ltb a e less)
 
   pub handed_round : (x ≡ g → ⊥) → e < a → handed n x g a e sh ≡ left g (a + 1) (n - 1) sh ++ left g 0 e sh
-  unfolding owed
+  unfolding handed owed
   handed_round other less =
       let not-forward : e ≤ a = omega arith in
-      handed_other other ∙ (cond-false (ltb a e) _ _ (le-ltb a e not-forward) ∙ cond-true (ltb e a) _ _ (lt-ltb e a less))
+      simp (ne_eqb x g other, le-ltb a e not-forward, lt-ltb e a less)
 
-  pub handed_nowhere : (x ≡ g → ⊥) → a ≡ e → handed n x g a e sh ≡ []
-  unfolding owed
-  handed_nowhere other is =
-      let ahead : e ≤ a = omega arith in
-      let behind : a ≤ e = omega arith in
-      handed_other other ∙ (cond-false (ltb a e) _ _ (le-ltb a e ahead) ∙ cond-false (ltb e a) _ _ (le-ltb e a behind))
-
-pub handed_empty : (n x g a e : ℕ) → handed n x g a e [] ≡ []
-unfolding handed owed
-handed_empty n x g a e = at (eqb x g) (ltb a e) (ltb e a)
-  where
-    at : (t u v : Bool) → ◌≡◌ {A = List CopyRecord} (cond t [] (cond u [] (cond v [] []))) []
-    at true u v = refl
-    at false true v = refl
-    at false false true = refl
-    at false false false = refl
-
--- nothing is handed over: the shelf stays
-module _ {C : Type 0} (edit : C → Edit → C) (n x g a e : ℕ) (sh : List CopyRecord) (cells : C) (cs : List CopyRecord) (is : handed n x g a e sh ≡ cs) where
-  pub handover_by : handover n x g a e sh ≡ fold (moved x) sh cs
-  unfolding handover
-  handover_by = ap (fold (moved x) sh) is
-
-  pub edits_by : fold edit cells (handover_edits n x g a e sh) ≡ fold edit cells (moves_edits x sh cs)
-  unfolding handover_edits
-  edits_by = ap (λ l. fold edit cells (moves_edits x sh l)) is
+module _ {S : Type 0} (shelf : Shelving S) (holder : Holding S) (n x g a e : ℕ) (s t : S) where
+  pub handed_by : (cs : List CopyRecord) → handed n x g a e (shelf.meaning s) ≡ cs → Moves shelf holder x cs s t → Edited shelf holder (handover n x g a e (shelf.meaning s)) (handover_edits n x g a e (shelf.meaning s)) s t
+  unfolding handover handover_edits
+  handed_by cs is m = rw is m
 
 -- ---- the two ranges do not meet
 
@@ -68,8 +52,7 @@ out_of_none g a high x h = and_right (eqb x.at.peer g) (leb (a + 1) x.at.place &
 -- a range that ends before it begins has nothing
 pub left_none : (g a high : ℕ) (sh : List CopyRecord) → high ≤ a → left g (a + 1) high sh ≡ []
 left_none g a high [] h = refl
-left_none g a high (x ∷ xs) h =
-    ap (λ (t : Bool). cond t (x ∷ left g (a + 1) high xs) (left g (a + 1) high xs)) (out_of_none g a high x h) ∙ left_none g a high xs h
+left_none g a high (x ∷ xs) h = rw (out_of_none g a high x h) (left_none g a high xs h)
 
 apart : (g low high e : ℕ) (x : CopyRecord) → e < low → in_range g low high x ≡ true → in_range g 0 e x ≡ false
 unfolding in_range
@@ -87,13 +70,13 @@ left_moved x g e other sh (c ∷ cs) out =
     ∙ (kept_by_moved (in_range g 0 e) (in_range_by_place g 0 e) x sh c (in_range_other g 0 e x c.at.replica c.at.place c.held other)
     ∙ kept_by_remove (in_range g 0 e) (in_range_by_place g 0 e) sh c.at c.held out.0)
 
-pub left_after : (x g low high e : ℕ) (sh : List CopyRecord) → (x ≡ g → ⊥) → e < low → left g 0 e (fold (moved x) sh (left g low high sh)) ≡ left g 0 e sh
+left_after : (x g low high e : ℕ) (sh : List CopyRecord) → (x ≡ g → ⊥) → e < low → left g 0 e (fold (moved x) sh (left g low high sh)) ≡ left g 0 e sh
 left_after x g low high e sh other less =
     left_moved x g e other sh (left g low high sh)
     (All-weaker (λ c. in_range g low high c ≡ true) (λ c. in_range g 0 e c ≡ false) (λ c in'. apart g low high e c less in') (left g low high sh) (kept_by_passes (in_range g low high) sh))
 
 -- together they have no more than the shelf
-pub left_both : (g low high e : ℕ) (sh : List CopyRecord) → e < low → length (left g low high sh) + length (left g 0 e sh) ≤ length sh
+left_both : (g low high e : ℕ) (sh : List CopyRecord) → e < low → length (left g low high sh) + length (left g 0 e sh) ≤ length sh
 left_both g low high e [] less = omega arith
 left_both g low high e (x ∷ xs) less = at (in_range g low high x) (in_range g 0 e x) refl refl (left_both g low high e xs less)
   where
@@ -103,36 +86,17 @@ left_both g low high e (x ∷ xs) less = at (in_range g low high x) (in_range g 
     at false true p q h = omega arith
     at false false p q h = omega arith
 
--- ---- one range after the other
+-- ---- one range after the other: first the places after the arc's start, then those up to its end
 
-pub moves_append : (x : ℕ) (sh cs ds : List CopyRecord) → moves_edits x sh (cs ++ ds) ≡ moves_edits x sh cs ++ moves_edits x (fold (moved x) sh cs) ds
-moves_append x sh [] ds = refl
-moves_append x sh (c ∷ cs) ds =
-    ap (λ l. move_edits x sh c ++ l) (moves_append x (moved x sh c) cs ds) ∙ sym (append_assoc (move_edits x sh c) (moves_edits x (moved x sh c) cs) (moves_edits x (fold (moved x) (moved x sh c) cs) ds))
+module _ {S : Type 0} (shelf : Shelving S) (holder : Holding S) (x g a e high : ℕ) (s t : S) (other : x ≡ g → ⊥) (less : e < a) (up : Moves shelf holder x (left g (a + 1) high (shelf.meaning s)) s t) where
+  pub round_left : left g 0 e (shelf.meaning t) ≡ left g 0 e (shelf.meaning s)
+  round_left = ap (left g 0 e) up.means ∙ left_after x g (a + 1) high e (shelf.meaning s) other (omega arith)
 
--- an arc that passes 0: first the places after its start, then those up to its end
-module _ {C : Type 0} (edit : C → Edit → C) (n x g a e high : ℕ) (sh sh₁ : List CopyRecord) (cells cells₁ : C) (other : x ≡ g → ⊥) (less : e < a) (top : high ≡ n - 1) where
-  up : List CopyRecord
-  up = left g (a + 1) high sh
+  pub round_few : length (left g (a + 1) high (shelf.meaning s)) + length (left g 0 e (shelf.meaning t)) ≤ length (shelf.meaning s)
+  round_few = rw round_left (left_both g (a + 1) high e (shelf.meaning s) (omega arith))
 
-  handed_two : handed n x g a e sh ≡ left g (a + 1) high sh ++ left g 0 e sh
-  handed_two = handed_round n x g a e sh other less ∙ ap (λ h. left g (a + 1) h sh ++ left g 0 e sh) (sym top)
+  pub round_moves : (u : S) → Moves shelf holder x (left g 0 e (shelf.meaning t)) t u → Moves shelf holder x (left g (a + 1) high (shelf.meaning s) ++ left g 0 e (shelf.meaning s)) s u
+  round_moves u on = moves_then shelf holder x s (left g (a + 1) high (shelf.meaning s)) (left g 0 e (shelf.meaning s)) t u up (rw round_left at on)
 
-  pub round_left : sh₁ ≡ fold (moved x) sh (left g (a + 1) high sh) → left g 0 e sh₁ ≡ left g 0 e sh
-  round_left first = ap (left g 0 e) first ∙ left_after x g (a + 1) high e sh other (omega arith)
-
-  pub round_value : (m k : ℕ) → m ≡ length (left g (a + 1) high sh) → k ≡ length (left g 0 e sh₁) → sh₁ ≡ fold (moved x) sh (left g (a + 1) high sh) → m + k ≡ length (handed n x g a e sh)
-  round_value m k p q first =
-      (λ j. p j + (q ∙ ap length (round_left first)) j) ∙ sym (length-append (left g (a + 1) high sh) (left g 0 e sh)) ∙ ap length (sym handed_two)
-
-  pub round_after : (sh₂ : List CopyRecord) → sh₁ ≡ fold (moved x) sh (left g (a + 1) high sh) → sh₂ ≡ fold (moved x) sh₁ (left g 0 e sh₁) → sh₂ ≡ handover n x g a e sh
-  round_after sh₂ first second =
-      second ∙ (λ j. fold (moved x) (first j) (round_left first j)) ∙ sym (folded_append (moved x) sh (left g (a + 1) high sh) (left g 0 e sh)) ∙ sym (handover_by edit n x g a e sh cells (left g (a + 1) high sh ++ left g 0 e sh) handed_two)
-
-  pub round_cells : (cells₂ : C) → sh₁ ≡ fold (moved x) sh (left g (a + 1) high sh) → cells₁ ≡ fold edit cells (moves_edits x sh (left g (a + 1) high sh)) → cells₂ ≡ fold edit cells₁ (moves_edits x sh₁ (left g 0 e sh₁)) → cells₂ ≡ fold edit cells (handover_edits n x g a e sh)
-  round_cells cells₂ first kept second =
-      second
-      ∙ (λ j. fold edit (kept j) (moves_edits x (first j) (round_left first j)))
-      ∙ sym (folded_append edit cells (moves_edits x sh (left g (a + 1) high sh)) (moves_edits x (fold (moved x) sh (left g (a + 1) high sh)) (left g 0 e sh)))
-      ∙ ap (fold edit cells) (sym (moves_append x sh (left g (a + 1) high sh) (left g 0 e sh)))
-      ∙ sym (edits_by edit n x g a e sh cells (left g (a + 1) high sh ++ left g 0 e sh) handed_two)
+  pub round_length : length (left g (a + 1) high (shelf.meaning s)) + length (left g 0 e (shelf.meaning t)) ≡ length (left g (a + 1) high (shelf.meaning s) ++ left g 0 e (shelf.meaning s))
+  round_length = rw (round_left, length-append)

@@ -1,21 +1,14 @@
 -- What moving one copy leaves of the copies in a range. Assumes nothing.
-use Rattle.std.proofs.Common.{◌≡◌, ℕ, Bool, true, false, cond, ◌&&◌, eqb, leb, List, [], ◌∷◌, ◌++◌, Some, None, fold, filter, sym, refl, ap, ◌∙◌}
+use Rattle.std.proofs.Common.{◌≡◌, ℕ, Bool, true, false, cond, ◌&&◌, eqb, leb, List, [], ◌∷◌, Some, None, filter, sym, refl, ap, ◌∙◌}
+use Rattle.std.proofs.lemmas.Option.{same_Some}
 use Rattle.std.proofs.lemmas.Bool.{ne_eqb, and_left, both_ways}
 use Rattle.copies.specs.declared.Coordinate.{Coordinate}
 use Rattle.copies.specs.declared.Entry.{Entry}
 use Rattle.copies.specs.declared.CopyRecord.{CopyRecord}
-use Rattle.copies.specs.declared.Edit.{Edit}
 use Rattle.copies.specs.Copies.{same, before, copy, find, put, remove, in_range, next}
-use Rattle.copies.proofs.Facts.{some_none, some_same, next_in_range}
+use Rattle.copies.proofs.Facts.{some_none, next_in_range}
 use Rattle.copies.proofs.Coordinates.{equal_from_same, same_itself}
 use Rattle.rules.specs.Handover.{spot, newer, moved}
-use Rattle.rules.specs.Edits.{move_edits, moves_edits}
-
--- ---- a fold over two lists, one after the other
-
-pub folded_append : {A B : Type 0} (f : B → A → B) (a : B) (xs ys : List A) → fold f a (xs ++ ys) ≡ fold f (fold f a xs) ys
-folded_append f a [] ys = refl
-folded_append f a (x ∷ xs) ys = folded_append f (f a x) xs ys
 
 -- ---- a test that reads only the coordinate
 
@@ -33,10 +26,10 @@ in_range_other g low high x r i e other = and_left (eqb x g) (leb low i && leb i
 
 module _ (p : CopyRecord → Bool) (by_place : ByPlace p) where
   kept_head : (x : CopyRecord) (xs : List CopyRecord) → p x ≡ false → filter p (x ∷ xs) ≡ filter p xs
-  kept_head x xs out = ap (λ (t : Bool). cond t (x ∷ filter p xs) (filter p xs)) out
+  kept_head x xs out = rw out
 
   kept_both : (x : CopyRecord) (xs ys : List CopyRecord) → filter p xs ≡ filter p ys → filter p (x ∷ xs) ≡ filter p (x ∷ ys)
-  kept_both x xs ys e = ap (λ l. cond (p x) (x ∷ l) l) e
+  kept_both x xs ys e = rw e
 
   -- a record at a coordinate that fails the test fails it
   out_there : (x : CopyRecord) (c : Coordinate) (e : Entry) → p (copy c e) ≡ false → same x.at c ≡ true → p x ≡ false
@@ -72,9 +65,6 @@ module _ (p : CopyRecord → Bool) (by_place : ByPlace p) where
 -- ---- the copies of g with low ≤ place ≤ high
 
 module _ (g low high : ℕ) where
-  within : CopyRecord → Bool
-  within = in_range g low high
-
   abbrev pub left : List CopyRecord → List CopyRecord
   left sh = filter (in_range g low high) sh
 
@@ -94,7 +84,7 @@ module _ (g low high : ℕ) where
   next_left (x ∷ xs) c e = at (in_range g low high x) refl e (λ is. next_left xs c is)
     where
       at : (t : Bool) → in_range g low high x ≡ t → cond t (Some x) (next xs g low high) ≡ Some c → (next xs g low high ≡ Some c → left xs ≡ c ∷ left (remove xs c.at)) → cond t (x ∷ left xs) (left xs) ≡ c ∷ left (remove (x ∷ xs) c.at)
-      at true in' is rest = next_first x xs c (some_same x c is)
+      at true in' is rest = next_first x xs c (same_Some x c is)
       at false out is rest = next_later x xs c out (next_in_range xs g low high c is) (same x.at c.at) refl (rest is)
 
   pub next_none_left : (sh : List CopyRecord) → next sh g low high ≡ None → left sh ≡ []
@@ -109,13 +99,3 @@ module _ (g low high : ℕ) where
   pub moved_left : (x : ℕ) (sh : List CopyRecord) (c : CopyRecord) → (x ≡ g → ⊥) → next sh g low high ≡ Some c → left sh ≡ c ∷ left (moved x sh c)
   moved_left x sh c other e =
       next_left sh c e ∙ ap (λ l. c ∷ l) (sym (kept_by_moved (in_range g low high) (in_range_by_place g low high) x sh c (in_range_other g low high x c.at.replica c.at.place c.held other)))
-
--- ---- handing over what is left gives what handing over the start gives
-
-module _ (x : ℕ) where
-  pub folded_turn : (sh : List CopyRecord) (c : CopyRecord) (cs ds : List CopyRecord) → cs ≡ c ∷ ds → fold (moved x) (moved x sh c) ds ≡ fold (moved x) sh cs
-  folded_turn sh c cs ds e = sym (ap (fold (moved x) sh) e)
-
-  pub edits_turn : {C : Type 0} (after : C → Edit → C) (cells : C) (sh : List CopyRecord) (c : CopyRecord) (cs ds : List CopyRecord) → cs ≡ c ∷ ds → fold after (fold after cells (move_edits x sh c)) (moves_edits x (moved x sh c) ds) ≡ fold after cells (moves_edits x sh cs)
-  edits_turn after cells sh c cs ds e =
-      sym (ap (λ l. fold after cells (moves_edits x sh l)) e ∙ folded_append after cells (move_edits x sh c) (moves_edits x (moved x sh c) ds))

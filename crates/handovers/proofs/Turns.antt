@@ -1,77 +1,48 @@
--- The loop that moves a range: handing over what is left gives what handing over the start gives. Assumes nothing.
-use Rattle.std.proofs.Common.{◌≡◌, ℕ, ◌+◌, ◌<◌, ◌≤◌, Bool, true, false, cond, List, [], ◌∷◌, length, Some, None, fold, filter, Option, sym, refl, ap, ◌∙◌, zero-add, arith}
+-- The loop that moves a range: those that were moved, and those that are left, are those of the start. Assumes nothing.
+use Rattle.std.proofs.Common.{◌≡◌, ℕ, ◌+◌, ◌<◌, ◌≤◌, List, [], ◌∷◌, ◌++◌, length, Some, None, sym, refl, ap, ◌∙◌, append_assoc, arith, length-append}
+use Rattle.std.proofs.lemmas.List.{append-nil}
+use Rattle.std.proofs.lemmas.List.Sums.{length-filter, count_by-le-length}
 use Rattle.copies.specs.declared.CopyRecord.{CopyRecord}
-use Rattle.copies.specs.declared.Edit.{Edit}
 use Rattle.copies.specs.Copies.{in_range, next}
-use Rattle.rules.specs.Handover.{moved}
-use Rattle.rules.specs.Edits.{move_edits, moves_edits}
-use Rattle.handovers.proofs.Ranges.{left, moved_left, next_none_left, folded_turn, edits_turn}
+use Rattle.holders.specs.declared.holder.Holder.{Ghosts as Holding}
+use Rattle.holders.specs.declared.shelf.Shelf.{Ghosts as Shelving}
+use Rattle.handovers.specs.Moves.{Moves}
+use Rattle.handovers.proofs.Ranges.{left, moved_left, next_none_left}
+use Rattle.handovers.proofs.Moving.{moves_none, moves_then}
 
--- a filter keeps no more than there was
-pub kept_by_length : (p : CopyRecord → Bool) (xs : List CopyRecord) → length (filter p xs) ≤ length xs
-kept_by_length p [] = omega arith
-kept_by_length p (x ∷ xs) = at (p x) (kept_by_length p xs)
-  where
-    at : (t : Bool) → length (filter p xs) ≤ length xs → length (cond t (x ∷ filter p xs) (filter p xs)) ≤ length (x ∷ xs)
-    at true h = omega arith
-    at false h = omega arith
+pub record Sofar {S : Type 0} (shelf : Shelving S) (holder : Holding S) (x g low high : ℕ) (s₀ s : S) (count : ℕ) : Type 0 where
+  pub gone : List CopyRecord
+  pub split : left g low high (shelf.meaning s₀) ≡ gone ++ left g low high (shelf.meaning s)
+  pub counts : count ≡ length gone
+  pub moves : Moves shelf holder x gone s₀ s
 
-module _ {C : Type 0} (edit : C → Edit → C) (x g low high most : ℕ) (sh₀ : List CopyRecord) (cells₀ : C) where
-  -- after some turns: what next answers, how many were moved, and what the shelf is
-  pub record Sofar (answer : Option CopyRecord) (count : ℕ) (sh : List CopyRecord) (cells : C) : Type 0 where
-    pub value : answer ≡ next sh g low high
-    pub counts : count + length (left g low high sh) ≡ length (left g low high sh₀)
-    pub few : length (left g low high sh₀) ≤ most
-    pub after : fold (moved x) sh (left g low high sh) ≡ fold (moved x) sh₀ (left g low high sh₀)
-    pub memory : fold edit cells (moves_edits x sh (left g low high sh)) ≡ fold edit cells₀ (moves_edits x sh₀ (left g low high sh₀))
+pub sofar_none : {S : Type 0} (shelf : Shelving S) (holder : Holding S) (x g low high : ℕ) (s : S) → Sofar shelf holder x g low high s s 0
+sofar_none shelf holder x g low high s = record { gone = []; split = refl; counts = refl; moves = moves_none shelf holder x s }
 
-  pub sofar_none : (answer : Option CopyRecord) (kept room : ℕ) → answer ≡ next sh₀ g low high → kept ≡ length sh₀ → kept ≤ room → room ≤ most → Sofar answer 0 sh₀ cells₀
-  sofar_none answer kept room e counts within bounded = record {
-    value = e;
-    counts = zero-add (length (left g low high sh₀));
-    few = omega (arith, kept_by_length (in_range g low high) sh₀);
-    after = refl;
-    memory = refl;
-  }
+left_few : (g low high : ℕ) (sh : List CopyRecord) → length (left g low high sh) ≤ length sh
+left_few g low high sh = rw length-filter (count_by-le-length (in_range g low high) sh)
 
-  module _ (answer : Option CopyRecord) (count : ℕ) (sh : List CopyRecord) (cells : C) (h : Sofar answer count sh cells) where
-    -- one more is there, so the count stays small
-    pub count_more : (one : CopyRecord) → answer ≡ Some one → (x ≡ g → ⊥) → count < most
-    count_more one is other =
-        let first = ap length (moved_left g low high x sh one other (sym h.value ∙ is)) in
-        let few = h.few in
+module _ {S : Type 0} {shelf : Shelving S} {holder : Holding S} {x g low high : ℕ} {s₀ s : S} {count : ℕ} (h : Sofar shelf holder x g low high s₀ s count) where
+  pub all_gone : None ≡ next (shelf.meaning s) g low high → h.gone ≡ left g low high (shelf.meaning s₀)
+  all_gone is = sym (rw (next_none_left g low high (shelf.meaning s) (sym is), append-nil) at h.split)
+
+  -- the next copy moves, and the others are left
+  module _ (other : x ≡ g → ⊥) {one : CopyRecord} (is : Some one ≡ next (shelf.meaning s) g low high) (t : S) (m : Moves shelf holder x (one ∷ []) s t) where
+    pub one_less : left g low high (shelf.meaning s) ≡ one ∷ left g low high (shelf.meaning t)
+    one_less = moved_left g low high x (shelf.meaning s) one other (sym is) ∙ ap (λ l. one ∷ left g low high l) (sym m.means)
+
+    pub few_gone : count < length (shelf.meaning s₀)
+    few_gone =
+        let turn = ap length one_less in
+        let split = ap length h.split ∙ length-append h.gone (left g low high (shelf.meaning s)) in
+        let few = left_few g low high (shelf.meaning s₀) in
         let counts = h.counts in
         omega arith
 
-    pub sofar_less : (one : CopyRecord) → answer ≡ Some one → (x ≡ g → ⊥) → (sh' : List CopyRecord) → sh' ≡ moved x sh one → length (left g low high sh') < length (left g low high sh)
-    sofar_less one is other sh' e =
-        let first = ap length (moved_left g low high x sh one other (sym h.value ∙ is)) in
-        let same = ap (λ l. length (left g low high l)) e in
-        omega arith
-
-    pub sofar_more : (one : CopyRecord) → answer ≡ Some one → (x ≡ g → ⊥) → (answer' : Option CopyRecord) (sh' : List CopyRecord) (cells' : C) → sh' ≡ moved x sh one → cells' ≡ fold edit cells (move_edits x sh one) → answer' ≡ next sh' g low high → Sofar answer' (count + 1) sh' cells'
-    sofar_more one is other answer' sh' cells' e k v =
-        let first = moved_left g low high x sh one other (sym h.value ∙ is) in
-        let here : left g low high sh ≡ one ∷ left g low high sh' = first ∙ ap (λ l. one ∷ left g low high l) (sym e) in
-        let long = ap length here in
-        let counts = h.counts in
-        record {
-          value = v;
-          counts = omega arith;
-          few = h.few;
-          after = ap (λ l. fold (moved x) l (left g low high sh')) e ∙ folded_turn x sh one (left g low high sh) (left g low high sh') here ∙ h.after;
-          memory = ap (λ l. fold edit cells' (moves_edits x l (left g low high sh'))) e ∙ ap (λ q. fold edit q (moves_edits x (moved x sh one) (left g low high sh'))) k ∙ edits_turn x edit cells sh one (left g low high sh) (left g low high sh') here ∙ h.memory;
-        }
-
-    module _ (is : answer ≡ None) where
-      nothing : left g low high sh ≡ []
-      nothing = next_none_left g low high sh (sym h.value ∙ is)
-
-      pub count_all : count ≡ length (left g low high sh₀)
-      count_all = let none = ap length nothing in let counts = h.counts in omega arith
-
-      pub after_all : sh ≡ fold (moved x) sh₀ (left g low high sh₀)
-      after_all = ap (fold (moved x) sh) (sym nothing) ∙ h.after
-
-      pub cells_all : cells ≡ fold edit cells₀ (moves_edits x sh₀ (left g low high sh₀))
-      cells_all = ap (λ l. fold edit cells (moves_edits x sh l)) (sym nothing) ∙ h.memory
+    pub sofar_more : Sofar shelf holder x g low high s₀ t (count + 1)
+    sofar_more = record {
+      gone = h.gone ++ one ∷ [];
+      split = h.split ∙ (ap (λ l. h.gone ++ l) one_less ∙ sym (append_assoc h.gone (one ∷ []) (left g low high (shelf.meaning t))));
+      counts = rw length-append (ap (λ n. n + 1) h.counts);
+      moves = moves_then shelf holder x s₀ h.gone (one ∷ []) s t h.moves m;
+    }

@@ -1,10 +1,12 @@
 // A handover on any shelf: the copies that a peer owes of an arc go to another.
 #![tactic(auto)]
 
-ghost use Rattle.std.specs.Prelude.{◌≡◌, ◌+◌, Bool, true, false, length, Some, fold, filter, ◌≢◌};
+ghost use Rattle.std.specs.Prelude.{◌≡◌, ◌+◌, List, [], ◌∷◌, length, Some, filter, ◌≢◌};
 ghost use Rattle.copies.specs.Copies.{find as found, in_range};
-ghost use Rattle.rules.specs.Handover.{newer, moved, handed, handover};
-ghost use Rattle.rules.specs.Edits.{move_edits, moves_edits, handover_edits};
+ghost use Rattle.holders.specs.Shelves.{Edited};
+ghost use Rattle.rules.specs.Handover.{newer, handed, handover};
+ghost use Rattle.rules.specs.Edits.{handover_edits};
+ghost use Rattle.handovers.specs.Moves.{Moves};
 
 use arithmetic::Settings;
 use copies::{Coordinate, CopyRecord, Entry};
@@ -14,25 +16,17 @@ use holders::{Holder, Shelf};
 pub fn is_newer(there: Option<Entry>, stamp: u32) -> bool
     ensures { result ≡ newer there stamp }
 {
-    match there {
-        None => false,
-        Some(entry) => stamp < entry.stamp,
-    }
+    there.is_some_and(|entry| stamp < entry.stamp)
 }
 
 // Moves one copy that the shelf has to `filler`, unless that has a newer one there.
 fn move_one<S: Shelf>(shelf: &mut S, filler: u16, one: CopyRecord)
     requires { found (S.Shelf.meaning shelf.old) one.at ≡ Some one.held }
-    ensures after { S.Shelf.meaning shelf.new ≡ moved filler (S.Shelf.meaning shelf.old) one }
-    ensures cells { S.Shelf.cells shelf.new ≡ fold S.Shelf.after (S.Shelf.cells shelf.old) (move_edits filler (S.Shelf.meaning shelf.old) one) }
-    ensures kept { S.Holder.held shelf.new ≡ length (S.Shelf.meaning shelf.new) }
-    ensures size { S.Holder.room shelf.new ≡ S.Holder.room shelf.old }
-    ensures same { S.Holder.frame shelf.new ≡ S.Holder.frame shelf.old }
+    ensures { Moves S.Shelf.own S.Holder filler (one ∷ []) shelf.old shelf.new }
 {
     let at = Coordinate {
         peer: filler,
-        replica: one.at.replica,
-        place: one.at.place,
+        ..one.at
     };
     let there = shelf.find(at);
     let _ = shelf.take(one.at);
@@ -45,18 +39,12 @@ fn move_one<S: Shelf>(shelf: &mut S, filler: u16, one: CopyRecord)
 fn move_range<S: Shelf>(shelf: &mut S, filler: u16, giver: u16, low: u16, high: u16) -> usize
     requires { filler ≢ giver }
     ensures value { result ≡ length (filter (in_range giver low high) (S.Shelf.meaning shelf.old)) }
-    ensures after { S.Shelf.meaning shelf.new ≡ fold (moved filler) (S.Shelf.meaning shelf.old) (filter (in_range giver low high) (S.Shelf.meaning shelf.old)) }
-    ensures cells { S.Shelf.cells shelf.new ≡ fold S.Shelf.after (S.Shelf.cells shelf.old) (moves_edits filler (S.Shelf.meaning shelf.old) (filter (in_range giver low high) (S.Shelf.meaning shelf.old))) }
-    ensures kept { S.Holder.held shelf.new ≡ length (S.Shelf.meaning shelf.new) }
-    ensures size { S.Holder.room shelf.new ≡ S.Holder.room shelf.old }
-    ensures same { S.Holder.frame shelf.new ≡ S.Holder.frame shelf.old }
+    ensures done { Moves S.Shelf.own S.Holder filler (filter (in_range giver low high) (S.Shelf.meaning shelf.old)) shelf.old shelf.new }
 {
     let mut count = 0;
-    let mut next = shelf.next(giver, low, high);
-    while let Some(one) = next {
+    while let Some(one) = shelf.next(giver, low, high) {
         move_one(shelf, filler, one);
         count += 1;
-        next = shelf.next(giver, low, high);
     }
     count
 }
@@ -65,10 +53,7 @@ fn move_range<S: Shelf>(shelf: &mut S, filler: u16, giver: u16, low: u16, high: 
 fn move_after<S: Shelf>(shelf: &mut S, filler: u16, giver: u16, start: u16, high: u16) -> usize
     requires { filler ≢ giver }
     ensures value { result ≡ length (filter (in_range giver (start + 1) high) (S.Shelf.meaning shelf.old)) }
-    ensures after { S.Shelf.meaning shelf.new ≡ fold (moved filler) (S.Shelf.meaning shelf.old) (filter (in_range giver (start + 1) high) (S.Shelf.meaning shelf.old)) }
-    ensures cells { S.Shelf.cells shelf.new ≡ fold S.Shelf.after (S.Shelf.cells shelf.old) (moves_edits filler (S.Shelf.meaning shelf.old) (filter (in_range giver (start + 1) high) (S.Shelf.meaning shelf.old))) }
-    ensures size { S.Holder.room shelf.new ≡ S.Holder.room shelf.old }
-    ensures same { S.Holder.frame shelf.new ≡ S.Holder.frame shelf.old }
+    ensures done { Moves S.Shelf.own S.Holder filler (filter (in_range giver (start + 1) high) (S.Shelf.meaning shelf.old)) shelf.old shelf.new }
 {
     if high <= start {
         return 0;
@@ -77,6 +62,7 @@ fn move_after<S: Shelf>(shelf: &mut S, filler: u16, giver: u16, start: u16, high
 }
 
 // Hands over to `filler` what `giver` has of the arc from `start` to `end`, in arc order and then by replica, and counts it.
+// (the four numbers are the fields of the message that orders it, and the definitions take them one by one: each would take a struct apart)
 pub fn hand_over<S: Shelf>(
     shelf: &mut S,
     settings: Settings,
@@ -86,13 +72,9 @@ pub fn hand_over<S: Shelf>(
     end: u16,
 ) -> usize
     ensures value { result ≡ length (handed settings.size filler giver start end (S.Shelf.meaning shelf.old)) }
-    ensures after { S.Shelf.meaning shelf.new ≡ handover settings.size filler giver start end (S.Shelf.meaning shelf.old) }
-    ensures cells { S.Shelf.cells shelf.new ≡ fold S.Shelf.after (S.Shelf.cells shelf.old) (handover_edits settings.size filler giver start end (S.Shelf.meaning shelf.old)) }
-    ensures size { S.Holder.room shelf.new ≡ S.Holder.room shelf.old }
-    ensures same { S.Holder.frame shelf.new ≡ S.Holder.frame shelf.old }
+    ensures done { Edited S.Shelf.own S.Holder (handover settings.size filler giver start end (S.Shelf.meaning shelf.old)) (handover_edits settings.size filler giver start end (S.Shelf.meaning shelf.old)) shelf.old shelf.new }
 {
-    let copies = shelf.count();
-    if copies == 0 || filler == giver || start == end {
+    if filler == giver || start == end {
         return 0;
     }
     if start < end {

@@ -1,20 +1,16 @@
+// (byte posts have examples much like these: told once for both, they would lie in a third crate, apart from those that show the memory,
+// and with an `ask` of its own)
 use faults::Fault;
 use holders::{Holder, Post, put_then_look, room_left};
 use messages::Message;
 use rack_posts::RackPost;
+use racks::Blank;
 
 const DUST: Message = Message::Replicate {
     to: 9,
     from: 9,
     start: 9,
     end: 9,
-};
-
-const BLANK: Message = Message::GetItem {
-    to: 0,
-    replica: 0,
-    place: 0,
-    question: 0,
 };
 
 fn ask(question: u32) -> Message {
@@ -59,7 +55,7 @@ fn the_others_keep_their_order(rt: HostRuntime) {
         assert_eq!(rt; post.kept(), 2);
     }
     assert_eq!(rt; memory[1], ask(3));
-    assert_eq!(rt; memory[2], BLANK);
+    assert_eq!(rt; memory[2], Message::blank());
 }
 
 #[test]
@@ -72,6 +68,6 @@ fn an_emptied_post_is_blank(rt: HostRuntime) {
         post.empty();
         assert_eq!(rt; post.look(0), None);
     }
-    assert_eq!(rt; memory[0], BLANK);
+    assert_eq!(rt; memory[0], Message::blank());
     assert_eq!(rt; memory[256], DUST);
 }

@@ -1,3 +1,5 @@
+// (log shelves have examples much like these: told once for both, they would lie in a third crate, apart from those that show the memory,
+// and with an `at` and an `entry` of its own)
 use copies::{Coordinate, CopyRecord, Entry};
 use faults::Fault;
 use holders::{Holder, Shelf, has_room_for, put_then_find};

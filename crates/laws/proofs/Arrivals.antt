@@ -1,11 +1,12 @@
 -- The delivery of an ADDITEM to the owner keeps everything: kept or older, the insert has arrived.
 use Rattle.std.proofs.Common.{◌≡◌, ℕ, ◌+◌, ◌<◌, ◌≤◌, true, false, ◌⊎◌, List, length, Some, None, Option, sym, refl, ap, ◌∙◌, subst, inl, inr, ⊎_elim, arith}
+use Rattle.std.proofs.lemmas.Option.{same_Some}
 use Rattle.std.specs.List.{remove, slice_get}
 use Rattle.std.proofs.lemmas.Bool.{ltb-true, ltb-false, both_ways}
 use Rattle.copies.specs.declared.Entry.{Entry}
 use Rattle.copies.specs.declared.CopyRecord.{CopyRecord}
 use Rattle.copies.specs.Copies.{Ordered, find, put}
-use Rattle.copies.proofs.Facts.{some_none, some_same, find_put, find_put_other, by_same, ordered_put, length_put_absent, length_put_present}
+use Rattle.copies.proofs.Facts.{some_none, find_put, find_put_other, by_same, ordered_put, length_put_absent, length_put_present}
 use Rattle.messages.specs.declared.Message.{Message}
 use Rattle.messages.specs.declared.Message.TheVariants.{AddItem, GetItem}
 use Rattle.rules.specs.State.{Settings, Lawful, State, with_post, with_shelf, owner_in, place_of}
@@ -39,13 +40,13 @@ module _ (sh : List CopyRecord) (to r i a v : ℕ) (o : Ordered sh) where
     ordered = ordered_put sh (spot to r i) (entry a v) o;
     covers = still;
     here = record { holder = to; entry = entry a v; has = find_put sh (spot to r i) (entry a v); as_new = omega arith };
-    copies_from = λ p q j c f. by_same (spot to r i) (spot p q j) (λ e. inr (sym e, some_same c (entry a v) (sym f ∙ (ap (find (put sh (spot to r i) (entry a v))) (sym e) ∙ find_put sh (spot to r i) (entry a v))))) (λ m. inl (sym (find_put_other sh (spot to r i) (entry a v) (spot p q j) m) ∙ f));
+    copies_from = λ p q j c f. by_same (spot to r i) (spot p q j) (λ e. inr (sym e, same_Some c (entry a v) (sym f ∙ (ap (find (put sh (spot to r i) (entry a v))) (sym e) ∙ find_put sh (spot to r i) (entry a v))))) (λ m. inl (sym (find_put_other sh (spot to r i) (entry a v) (spot p q j) m) ∙ f));
     cells = count (find sh (spot to r i)) refl;
   }
     where
       not_newer : (w : Option Entry) (c : Entry) → newer w a ≡ false → w ≡ Some c → c.stamp ≤ a
       not_newer None c f e = absurd (some_none (sym e))
-      not_newer (Some d) c f e = omega (arith, ltb-false a d.stamp f, ap (λ x. x.stamp) (some_same d c e))
+      not_newer (Some d) c f e = omega (arith, ltb-false a d.stamp f, ap (λ x. x.stamp) (same_Some d c e))
 
       still : (q j b : ℕ) → Covered sh q j b → Covered (put sh (spot to r i) (entry a v)) q j b
       still q j b c =

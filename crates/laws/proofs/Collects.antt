@@ -1,7 +1,8 @@
 -- Collect keeps everything: a question goes, and perhaps its GETITEM.
 use Rattle.std.proofs.Common.{◌≡◌, ℕ, ◌+◌, true, false, eqb, List, [], ◌∷◌, Some, None, Option, sym, refl, ap, ◌∙◌, subst, inl, inr, ⊎_elim, arith}
+use Rattle.std.proofs.lemmas.Option.{same_Some}
 use Rattle.std.proofs.lemmas.Bool.{cases_Bool, cond-true, cond-false, cond_both, both_ways, eqb-true}
-use Rattle.copies.proofs.Facts.{some_none, some_same}
+use Rattle.copies.proofs.Facts.{some_none}
 use Rattle.messages.specs.declared.Message.{Message}
 use Rattle.messages.specs.declared.Message.TheVariants.{RetrieveItems, Replicate, AddItem, GetItem}
 use Rattle.rules.specs.declared.Reply.{Reply}
@@ -30,7 +31,7 @@ reply_open [] q reply h = absurd (some_none (sym h))
 reply_open (x ∷ xs) q reply h =
     ⊎_elim
     (λ t.
-    let same-reply : x.reply ≡ reply = some_same x.reply reply (sym (cond-true (eqb x.number q) (Some x.reply) (reply_to xs q) t) ∙ h) in
+    let same-reply : x.reply ≡ reply = same_Some x.reply reply (sym (cond-true (eqb x.number q) (Some x.reply) (reply_to xs q) t) ∙ h) in
     inl (ap (λ w. question q w) (sym same-reply) ∙ ap (λ n. question n x.reply) (sym (eqb-true x.number q t))))
     (λ f. inr (reply_open xs q reply (sym (cond-false (eqb x.number q) (Some x.reply) (reply_to xs q) f) ∙ h)))
     (cases_Bool (eqb x.number q))

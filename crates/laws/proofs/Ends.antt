@@ -1,7 +1,8 @@
 -- A handover ends: filler and giver are settled, or the giver is off the table. What held of the peers holds after it.
 use Rattle.std.proofs.Common.{◌≡◌, ℕ, ◌<◌, List, Some, None, Option, sym, refl, ap, ◌∙◌, subst}
+use Rattle.std.proofs.lemmas.Option.{same_Some}
 use Rattle.circle.specs.Owners.{owner}
-use Rattle.copies.proofs.Facts.{some_none, some_same}
+use Rattle.copies.proofs.Facts.{some_none}
 use Rattle.rules.specs.declared.PeerState.{PeerState}
 use Rattle.rules.specs.declared.PeerState.TheVariants.{Settled, Filling, Giving, Leaving}
 use Rattle.rules.specs.declared.Peer.{Peer}
@@ -23,7 +24,7 @@ pub record Ends (t t' : List Peer) (x g : ℕ) : Type 0 where
 
 module _ (t : List Peer) (x g a e : ℕ) (distinct : Distinct t) (filling : state_of t x ≡ Some (Filling g a e)) where
   not_giver : (st : PeerState) → Handing st → state_of t g ≡ Some st → x ≡ g → ⊥
-  not_giver st h is q = subst Handing (some_same st (Filling g a e) (sym is ∙ (ap (state_of t) (sym q) ∙ filling))) h
+  not_giver st h is q = subst Handing (same_Some st (Filling g a e) (sym is ∙ (ap (state_of t) (sym q) ∙ filling))) h
 
   -- after the giver's own change, t₁
   settling : (t₁ : List Peer) → members t₁ ≡ members t → Distinct t₁ → ((q : ℕ) → (q ≡ g → ⊥) → state_of t₁ q ≡ state_of t q) → ((st : PeerState) → state_of t₁ g ≡ Some st → st ≡ Settled) → (x ≡ g → ⊥) → Ends t (with_state x Settled t₁) x g
@@ -41,7 +42,7 @@ module _ (t : List Peer) (x g a e : ℕ) (distinct : Distinct t) (filling : stat
   by_state Settled h is = absurd h
   by_state (Filling k b d) h is = absurd h
   by_state Giving h is =
-      settling (with_state g Settled t) (members_set t g Settled Giving distinct is refl refl) (distinct_set t g Settled distinct) (λ q n. set_other t g Settled q (λ k. n (sym k))) (λ st k. some_same st Settled (sym k ∙ set_same t g Settled Giving is)) (not_giver Giving tt is)
+      settling (with_state g Settled t) (members_set t g Settled Giving distinct is refl refl) (distinct_set t g Settled distinct) (λ q n. set_other t g Settled q (λ k. n (sym k))) (λ st k. same_Some st Settled (sym k ∙ set_same t g Settled Giving is)) (not_giver Giving tt is)
   by_state Leaving h is =
       settling (without g t) (members_without t g distinct is) (distinct_without t g distinct) (λ q n. without_other t g q (λ k. n (sym k))) (λ st k. absurd (some_none (sym k ∙ without_same t g))) (not_giver Leaving tt is)
 
@@ -60,7 +61,7 @@ module _ (set : Settings) (t t' : List Peer) (x g a e : ℕ) (peers : Peers set 
   -- who fills now is neither, and filled before
   pub who : (y h b d : ℕ) → state_of t' y ≡ Some (Filling h b d) → (y ≡ x → ⊥) × (y ≡ g → ⊥) × (state_of t y ≡ Some (Filling h b d))
   who y h b d f =
-      let not-x : y ≡ x → ⊥ = λ q. filling_not_settled h b d (some_same (Filling h b d) Settled (sym f ∙ (ap (state_of t') q ∙ ends.filler_now))) in
+      let not-x : y ≡ x → ⊥ = λ q. filling_not_settled h b d (same_Some (Filling h b d) Settled (sym f ∙ (ap (state_of t') q ∙ ends.filler_now))) in
       let not-g : y ≡ g → ⊥ = λ q. filling_not_settled h b d (ends.giver_now (Filling h b d) (ap (state_of t') (sym q) ∙ f)) in
       (not-x, not-g, sym (ends.others y not-x not-g) ∙ f)
 

@@ -1,7 +1,7 @@
 -- The stories of the calls that make them grow.
 use Rattle.std.proofs.Common.{◌≡◌, ℕ, Some, sym, ap, ◌∙◌, inl, inr, ⊎_elim, arith}
+use Rattle.std.proofs.lemmas.Option.{same_Some}
 use Rattle.std.specs.List.{slice_get}
-use Rattle.copies.proofs.Facts.{some_same}
 use Rattle.messages.specs.declared.Message.TheVariants.{AddItem}
 use Rattle.rules.specs.declared.Call.TheVariants.{Insert, Lookup, Deliver}
 use Rattle.rules.specs.declared.Answer.{Answer}
@@ -82,6 +82,6 @@ arrival_like story m s n to r i a v answer at_n not-inserted not_opened = record
 
     same : {b t : ℕ} → Arrives s (Deliver n) answer b t → (b ≡ a) × (t ≡ r)
     same {b} {t} x =
-        let e : AddItem x.to t x.i b x.v ≡ AddItem to r i a v = some_same (AddItem x.to t x.i b x.v) (AddItem to r i a v) (sym x.message ∙ (ap (slice_get s.post) (sym (position x.n x.call)) ∙ at_n)) in
+        let e : AddItem x.to t x.i b x.v ≡ AddItem to r i a v = same_Some (AddItem x.to t x.i b x.v) (AddItem to r i a v) (sym x.message ∙ (ap (slice_get s.post) (sym (position x.n x.call)) ∙ at_n)) in
         let f = same_add x.to t x.i b x.v to r i a v e in
         (f.stamp, f.replica)

@@ -1,11 +1,12 @@
 -- Join keeps everything.
 use Rattle.std.proofs.Common.{◌≡◌, ℕ, ◌<◌, false, cond, eqb, List, [], ◌∷◌, ◌++◌, Some, None, Option, sym, refl, ap, ◌∙◌, subst, inl, inr, ⊎_elim}
+use Rattle.std.proofs.lemmas.Option.{same_Some}
 use Rattle.std.proofs.lemmas.Bool.{cond-true, cond-false, ne_eqb, not-false}
 use Rattle.circle.specs.Circle.{in_arc}
 use Rattle.circle.specs.Owners.{Member, others, owner, successor, predecessor}
 use Rattle.circle.specs.Laws.{ListLaws}
 use Rattle.circle.proofs.Searches.{list_laws}
-use Rattle.copies.proofs.Facts.{some_none, some_same}
+use Rattle.copies.proofs.Facts.{some_none}
 use Rattle.messages.specs.declared.Message.TheVariants.{RetrieveItems}
 use Rattle.rules.specs.declared.PeerState.{PeerState}
 use Rattle.rules.specs.declared.PeerState.TheVariants.{Settled, Filling, Giving}
@@ -85,7 +86,7 @@ module _ (set : Settings) {M : Type 0} (story : Story M) (s : State) (p : ℕ) (
       nobody_fills : (y g a b : ℕ) → state_of (s.table ++ peer p Settled ∷ []) y ≡ Some (Filling g a b) → ⊥
       nobody_fills y g a b f =
           by_equal p y
-          (λ q. filling_not_settled g a b (some_same (Filling g a b) Settled (sym f ∙ (ap (state_of (s.table ++ peer p Settled ∷ [])) (sym q) ∙ push_new s.table p Settled joins.absent))))
+          (λ q. filling_not_settled g a b (same_Some (Filling g a b) Settled (sym f ∙ (ap (state_of (s.table ++ peer p Settled ∷ [])) (sym q) ∙ push_new s.table p Settled joins.absent))))
           (λ n. subst (Member y) empty (state_member s.table y (Filling g a b) (sym (push_other s.table p Settled y n) ∙ f) refl))
 
       below : (y : ℕ) (st : PeerState) → state_of (s.table ++ peer p Settled ∷ []) y ≡ Some st → y < set.size

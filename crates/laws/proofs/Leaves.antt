@@ -1,9 +1,9 @@
 -- Leave keeps everything.
 use Rattle.std.proofs.Common.{◌≡◌, ℕ, ◌<◌, cond, Some, None, Option, sym, refl, ap, ◌∙◌}
+use Rattle.std.proofs.lemmas.Option.{same_Some}
 use Rattle.std.proofs.lemmas.Bool.{cond-true, cond-false}
 use Rattle.circle.specs.Circle.{in_arc}
 use Rattle.circle.specs.Owners.{Member, others, owner, successor, predecessor}
-use Rattle.copies.proofs.Facts.{some_same}
 use Rattle.messages.specs.declared.Message.TheVariants.{Replicate}
 use Rattle.rules.specs.declared.PeerState.TheVariants.{Settled, Filling, Leaving}
 use Rattle.rules.specs.State.{Settings, State, members, state_of, with_state, with_table, owner_in, sending}
@@ -48,7 +48,7 @@ module _ (set : Settings) {M : Type 0} (story : Story M) (s : State) (p : ℕ) (
       filling = set_same (with_state p Leaving s.table) c (Filling p a p) Settled still_settled;
       owing = record { state = Leaving; is = set_other (with_state p Leaving s.table) c (Filling p a p) p apart ∙ set_same s.table p Leaving Settled leaves.settled; owes = tt };
       giver_was = leaves.settled;
-      filler_was = λ st h. some_same st Settled (sym h ∙ settled);
+      filler_was = λ st h. same_Some st Settled (sym h ∙ settled);
       others = λ q n m. set_other (with_state p Leaving s.table) c (Filling p a p) q (λ k. n (sym k)) ∙ set_other s.table p Leaving q (λ k. m (sym k));
       distinct = distinct_set (with_state p Leaving s.table) c (Filling p a p) (distinct_set s.table p Leaving kept.sound.peers.distinct);
       filler_below = kept.sound.peers.below c Settled settled;

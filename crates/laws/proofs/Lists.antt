@@ -1,7 +1,8 @@
 -- Membership and totals of lists, and what taking the element at a position does to them.
 use Rattle.std.proofs.Common.{◌≡◌, ℕ, zero, suc, ◌+◌, ◌*◌, ◌≤◌, ◌⊎◌, List, [], ◌∷◌, ◌++◌, length, Some, sym, refl, ap, ◌∙◌, inl, inr, ⊎_elim, add_assoc, zero-add, arith}
+use Rattle.std.proofs.lemmas.Option.{same_Some}
 use Rattle.std.specs.List.{remove, slice_get}
-use Rattle.copies.proofs.Facts.{some_none, some_same}
+use Rattle.copies.proofs.Facts.{some_none}
 
 abbrev pub Mem : {X : Type 0} → X → List X → Type 0
 Mem x [] = ⊥
@@ -64,7 +65,7 @@ pub record Around {X : Type 0} (xs : List X) (n : ℕ) (y : X) : Type 0 where
 pub around : {X : Type 0} (xs : List X) (n : ℕ) (y : X) → slice_get xs n ≡ Some y → Around xs n y
 around [] n y e = absurd (some_none (sym e))
 around (x ∷ xs) zero y e =
-    record { front = []; back = xs; whole = ap (λ z. z ∷ xs) (some_same x y e); rest = refl }
+    record { front = []; back = xs; whole = ap (λ z. z ∷ xs) (same_Some x y e); rest = refl }
 around (x ∷ xs) (suc n) y e =
     let r = around xs n y e in
     record { front = x ∷ r.front; back = r.back; whole = ap (λ z. x ∷ z) r.whole; rest = ap (λ z. x ∷ z) r.rest }

@@ -1,8 +1,9 @@
 -- The members of a table after each change of it, and what a member's state can be.
 use Rattle.std.proofs.Common.{◌≡◌, ℕ, true, false, cond, eqb, List, [], ◌∷◌, ◌++◌, Some, None, sym, refl, ap, ◌∙◌, subst, inl, inr, ⊎_elim}
+use Rattle.std.proofs.lemmas.Option.{same_Some}
 use Rattle.std.proofs.lemmas.Bool.{cases_Bool, cond-true, cond-false, eq-eqb, ne_eqb}
 use Rattle.circle.specs.Owners.{Member, others}
-use Rattle.copies.proofs.Facts.{some_none, some_same}
+use Rattle.copies.proofs.Facts.{some_none}
 use Rattle.rules.specs.declared.PeerState.{PeerState}
 use Rattle.rules.specs.declared.PeerState.TheVariants.{Leaving}
 use Rattle.rules.specs.declared.Peer.{Peer}
@@ -68,7 +69,7 @@ members_set [] p st old d h a b = refl
 members_set (x ∷ t) p st old d h a b =
     by_equal x.id p
     (λ e.
-    let s : x.state ≡ old = some_same x.state old (sym (state_here x t p e) ∙ h) in
+    let s : x.state ≡ old = same_Some x.state old (sym (state_here x t p e) ∙ h) in
     let none : state_of t p ≡ None = subst (λ k. state_of t k ≡ None) e d.0 in
     ap members (set_here x t p st e)
     ∙ (members_in (peer p st) (with_state p st t) b
@@ -88,7 +89,7 @@ members_without [] p d h = refl
 members_without (x ∷ t) p d h =
     by_equal x.id p
     (λ e.
-    let s : x.state ≡ Leaving = some_same x.state Leaving (sym (state_here x t p e) ∙ h) in
+    let s : x.state ≡ Leaving = same_Some x.state Leaving (sym (state_here x t p e) ∙ h) in
     let none : state_of t p ≡ None = subst (λ k. state_of t k ≡ None) e d.0 in
     ap members (drop_here x t p e) ∙ (drop_absent t p none ∙ sym (members_out x t (ap is_leaving s))))
     (λ n. ap members (drop_there x t p n) ∙ step_same x t (without p t) (members_without t p d.1 (sym (state_there x t p n) ∙ h)))
@@ -100,7 +101,7 @@ state_member [] p st h l = absurd (some_none (sym h))
 state_member (x ∷ t) p st h l =
     by_equal x.id p
     (λ e.
-    let s : x.state ≡ st = some_same x.state st (sym (state_here x t p e) ∙ h) in
+    let s : x.state ≡ st = same_Some x.state st (sym (state_here x t p e) ∙ h) in
     subst (Member p) (sym (members_in x t (ap is_leaving s ∙ l))) (inl (sym e)))
     (λ n.
     let k = state_member t p st (sym (state_there x t p n) ∙ h) l in

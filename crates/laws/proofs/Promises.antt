@@ -1,9 +1,9 @@
 -- The laws on copies and lookups, from what holds after every call.
 use Rattle.std.proofs.Common.{◌≡◌, ℕ, ◌<◌, ◌≤◌, [], Some, sym, ap, ◌∙◌, subst, ⊎_elim, arith}
+use Rattle.std.proofs.lemmas.Option.{same_Some}
 use Rattle.circle.proofs.Places.{place_laws}
 use Rattle.copies.specs.declared.Entry.{Entry}
 use Rattle.copies.specs.Copies.{find}
-use Rattle.copies.proofs.Facts.{some_same}
 use Rattle.rules.specs.declared.PeerState.TheVariants.{Filling}
 use Rattle.rules.specs.State.{Settings, Lawful, State, state_of, owner_in, place_of}
 use Rattle.rules.specs.Handover.{spot, entry}
@@ -43,8 +43,8 @@ module _ (set : Settings) (lawful : Lawful set) {M : Type 0} (story : Story M) (
       via : Covered s.shelf r (place_of set k r) a → a ≤ e.stamp
       via c =
           let has : find s.shelf (spot c.holder r i) ≡ Some c.entry = subst (λ j. find s.shelf (spot c.holder r j) ≡ Some c.entry) here c.has in
-          let who : c.holder ≡ p = some_same c.holder p (sym (at_owner c.holder r i c.entry has) ∙ at_owner p r i e f) in
-          let it : c.entry ≡ e = some_same c.entry e (sym has ∙ (ap (λ h. find s.shelf (spot h r i)) who ∙ f)) in
+          let who : c.holder ≡ p = same_Some c.holder p (sym (at_owner c.holder r i c.entry has) ∙ at_owner p r i e f) in
+          let it : c.entry ≡ e = same_Some c.entry e (sym has ∙ (ap (λ h. find s.shelf (spot h r i)) who ∙ f)) in
           omega (arith, c.as_new, ap (λ x. x.stamp) it)
 
   pub record Kept (k r a v : ℕ) : Type 0 where

@@ -1,10 +1,11 @@
 -- The delivery of a GETITEM to the owner keeps everything: what it shows is as new as all that had landed.
 use Rattle.std.proofs.Common.{◌≡◌, ℕ, ◌<◌, ◌≤◌, Bool, true, false, cond, eqb, ◌⊎◌, List, [], ◌∷◌, Some, None, Option, sym, refl, ap, ◌∙◌, subst, inl, inr, ⊎_elim, arith}
+use Rattle.std.proofs.lemmas.Option.{same_Some}
 use Rattle.std.specs.List.{remove, slice_get}
 use Rattle.std.proofs.lemmas.Bool.{cases_Bool, cond-true, cond-false, both_ways}
 use Rattle.copies.specs.declared.Entry.{Entry}
 use Rattle.copies.specs.Copies.{find}
-use Rattle.copies.proofs.Facts.{some_none, some_same}
+use Rattle.copies.proofs.Facts.{some_none}
 use Rattle.messages.specs.declared.Message.{Message}
 use Rattle.messages.specs.declared.Message.TheVariants.{AddItem, GetItem}
 use Rattle.rules.specs.declared.PeerState.TheVariants.{Filling}
@@ -59,13 +60,13 @@ module _ (set : Settings) (lawful : Lawful set) {M : Type 0} (story : Story M) (
   all_here : still_to_come set (state_of s.table to) i ≡ false → (h : ℕ) (c : Entry) → find s.shelf (spot h r i) ≡ Some c → find s.shelf (spot to r i) ≡ Some c
   all_here came h c f =
       ⊎_elim
-      (λ o. subst (λ k. find s.shelf (spot k r i) ≡ Some c) (some_same h to (sym o ∙ owner_to)) f)
+      (λ o. subst (λ k. find s.shelf (spot k r i) ≡ Some c) (same_Some h to (sym o ∙ owner_to)) f)
       (λ w. absurd (awaited w))
       (kept.sound.placed h r i c f).holder
     where
       awaited : Awaited set s.table h i → ⊥
       awaited w =
-          let who : w.filler ≡ to = some_same w.filler to (sym w.owner ∙ owner_to) in
+          let who : w.filler ≡ to = same_Some w.filler to (sym w.owner ∙ owner_to) in
           let st : state_of s.table to ≡ Some (Filling h w.start w.end) = ap (state_of s.table) (sym who) ∙ w.filling in
           both_ways (still_to_come set (state_of s.table to) i) came (ap (λ o. still_to_come set o i) st ∙ w.on)
 
@@ -91,7 +92,7 @@ module _ (set : Settings) (lawful : Lawful set) {M : Type 0} (story : Story M) (
       fresh : still_to_come set (state_of s.table to) i ≡ false → find s.shelf (spot to r i) ≡ Some (entry a v) → (b : ℕ) → story.landed m k b → b ≤ a
       fresh came has b landed =
           let c = landed_here m k r' b came asked landed in
-          let same-entry : c.0 ≡ entry a v = some_same c.0 (entry a v) (sym c.1 ∙ has) in
+          let same-entry : c.0 ≡ entry a v = same_Some c.0 (entry a v) (sym c.1 ∙ has) in
           omega (arith, c.2, ap (λ x. x.stamp) same-entry)
 
   absent_now : (m : M) (k r' b : ℕ) → Absent ≡ reply → story.asked m q k r' → story.landed m k b → ⊥

@@ -1,9 +1,9 @@
 -- A peer starts to fill an arc: what join and leave both do. What held of peers and copies holds after it.
 use Rattle.std.proofs.Common.{◌≡◌, ℕ, ◌<◌, true, false, ◌⊎◌, List, Some, Option, sym, ap, ◌∙◌, subst, inl, inr, ⊎_elim, arith}
+use Rattle.std.proofs.lemmas.Option.{same_Some}
 use Rattle.std.proofs.lemmas.Bool.{cases_Bool}
 use Rattle.circle.specs.Circle.{in_arc}
 use Rattle.copies.specs.declared.CopyRecord.{CopyRecord}
-use Rattle.copies.proofs.Facts.{some_same}
 use Rattle.rules.specs.declared.PeerState.{PeerState}
 use Rattle.rules.specs.declared.PeerState.TheVariants.{Settled, Filling}
 use Rattle.rules.specs.declared.Peer.{Peer}
@@ -32,7 +32,7 @@ pub filling_not_settled : (g a e : ℕ) → ◌≡◌ {A = PeerState} (Filling g
 filling_not_settled g a e h = let z : ◌≡◌ {A = ℕ} 0 1 = cc in omega arith
 
 pub owing_not : (t : List Peer) (g : ℕ) (st : PeerState) → (Handing st → ⊥) → state_of t g ≡ Some st → Owing t g → ⊥
-owing_not t g st never h o = never (subst Handing (some_same o.state st (sym o.is ∙ h)) o.owes)
+owing_not t g st never h o = never (subst Handing (same_Some o.state st (sym o.is ∙ h)) o.owes)
 
 pub record Parts (g a e h b d : ℕ) : Type 0 where
   pub giver : g ≡ h
@@ -44,7 +44,7 @@ parts g a e h b d q = record { giver = cc; start = cc; end = cc }
 
 module _ (set : Settings) (t t' : List Peer) (x g a e : ℕ) (peers : Peers set t) (starts : Starts set t t' x g a e) where
   giver_not_filling : (h b d : ℕ) → state_of t g ≡ Some (Filling h b d) → ⊥
-  giver_not_filling h b d f = filling_not_settled h b d (some_same (Filling h b d) Settled (sym f ∙ starts.giver_was))
+  giver_not_filling h b d f = filling_not_settled h b d (same_Some (Filling h b d) Settled (sym f ∙ starts.giver_was))
 
   filler_not_filling : (h b d : ℕ) → state_of t x ≡ Some (Filling h b d) → ⊥
   filler_not_filling h b d f = filling_not_settled h b d (starts.filler_was (Filling h b d) f)
@@ -92,7 +92,7 @@ module _ (set : Settings) (t t' : List Peer) (x g a e : ℕ) (peers : Peers set 
   old_arc : (y h b d i : ℕ) → i < set.size → state_of t y ≡ Some (Filling h b d) → owner_in set t i ≡ Some y → owner_in set t' i ≡ Some y
   old_arc y h b d i i< f o =
       ⊎_elim
-      (λ on. absurd (giver_not_filling h b d (subst (λ k. state_of t k ≡ Some (Filling h b d)) (some_same y g (sym o ∙ starts.was i i< on)) f)))
+      (λ on. absurd (giver_not_filling h b d (subst (λ k. state_of t k ≡ Some (Filling h b d)) (same_Some y g (sym o ∙ starts.was i i< on)) f)))
       (λ off. starts.elsewhere i i< off ∙ o)
       (cases_Bool (in_arc set.size a e i))
 
@@ -135,7 +135,7 @@ module _ (set : Settings) (t t' : List Peer) (x g a e : ℕ) (peers : Peers set 
   holds_after : (p i : ℕ) → i < set.size → (owner_in set t i ≡ Some p) ⊎ Awaited set t p i → (owner_in set t' i ≡ Some p) ⊎ Awaited set t' p i
   holds_after p i i< (inl o) =
       ⊎_elim
-      (λ on. inr (record { filler = x; start = a; end = e; owner = starts.now i i< on; filling = starts.filling ∙ ap (λ k. Some (Filling k a e)) (some_same g p (sym (starts.was i i< on) ∙ o)); on = on }))
+      (λ on. inr (record { filler = x; start = a; end = e; owner = starts.now i i< on; filling = starts.filling ∙ ap (λ k. Some (Filling k a e)) (same_Some g p (sym (starts.was i i< on) ∙ o)); on = on }))
       (λ off. inl (starts.elsewhere i i< off ∙ o))
       (cases_Bool (in_arc set.size a e i))
   holds_after p i i< (inr w) =

@@ -1,3 +1,4 @@
+// The layout of messages, byte by byte: the numbers of an example, and which changes of a kind, a byte or the length are still a message.
 use faults::Fault;
 use layouts::{decode, encode};
 use messages::Message;
@@ -55,11 +56,11 @@ const OF_A_COPY: [bool; 22] = [
 // Every change of one byte decodes just when the kind names that byte, and then to what has that form.
 fn check_each_byte(rt: &impl Abort, message: Message, named: &[bool; 22]) {
     let form = encode(message);
-    for i in 1..22 {
+    for (i, is_named) in named.iter().enumerate().skip(1) {
         for change in 1..=255u8 {
             let mut bytes = form;
             bytes[i] ^= change;
-            assert_eq!(rt; decode(&bytes).is_ok(), named[i]);
+            assert_eq!(rt; decode(&bytes).is_ok(), *is_named);
             if let Ok(other) = decode(&bytes) {
                 assert!(rt; encode(other) == bytes);
             }

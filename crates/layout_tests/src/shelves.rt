@@ -1,3 +1,5 @@
+// (rack shelves have examples much like these: told once for both, they would lie in a third crate, apart from those that show the memory,
+// and with an `at` and an `entry` of its own)
 use copies::{Coordinate, CopyRecord, Entry};
 use faults::Fault;
 use holders::{Holder, Shelf, has_room_for, put_then_find};
@@ -48,7 +50,8 @@ fn a_shelf_of_size_1_overwrites_and_refuses(rt: HostRuntime) {
     // with no free record the take moved the others up, and there are none
     let bytes = shelf.into_memory();
     assert!(rt; bytes.len() == 20);
-    assert!(rt; bytes[0] == 0 && bytes[17] == 0 && bytes[18] == 9 && bytes[19] == 9);
+    assert!(rt; bytes[..18] == [0; 18]);
+    assert!(rt; bytes[18..] == [9; 2]);
 }
 
 #[test]
@@ -67,19 +70,9 @@ fn a_take_appends_a_gone_record(rt: HostRuntime) {
     assert_eq!(rt; shelf.find(at(258, 3, 772)), None);
     let bytes = shelf.into_memory();
     assert!(rt; bytes.len() == 54);
-    assert!(rt;
-        bytes[0] == 1
-            && bytes[1] == 3
-            && bytes[2] == 1
-            && bytes[3] == 2
-            && bytes[4] == 3
-            && bytes[5] == 4
-    );
-    assert!(rt; bytes[9] == 7 && bytes[17] == 8);
-    assert!(rt;
-        bytes[18] == 2 && bytes[19] == 3 && bytes[23] == 4 && bytes[27] == 0 && bytes[35] == 0
-    );
-    assert!(rt; bytes[36] == 0);
+    assert!(rt; bytes[..18] == [1, 3, 1, 2, 3, 4, 0, 0, 0, 7, 0, 0, 0, 0, 0, 0, 0, 8]);
+    assert!(rt; bytes[18..24] == [2, 3, 1, 2, 3, 4]);
+    assert!(rt; bytes[24..] == [0; 30]);
 }
 
 #[test]
@@ -96,8 +89,9 @@ fn a_put_with_no_free_record_moves_the_others_up(rt: HostRuntime) {
     assert_eq!(rt; shelf.find(at(2, 2, 2)), Some(entry(2)));
     let bytes = shelf.into_memory();
     assert!(rt; bytes.len() == 54);
-    assert!(rt; bytes[1] == 2 && bytes[17] == 2 && bytes[19] == 1 && bytes[35] == 3);
-    assert!(rt; bytes[37] == 3 && bytes[53] == 4);
+    assert!(rt; bytes[..18] == [1, 2, 0, 2, 0, 2, 0, 0, 0, 1, 0, 0, 0, 0, 0, 0, 0, 2]);
+    assert!(rt; bytes[18..36] == [1, 1, 0, 1, 0, 1, 0, 0, 0, 1, 0, 0, 0, 0, 0, 0, 0, 3]);
+    assert!(rt; bytes[36..] == [1, 3, 0, 3, 0, 3, 0, 0, 0, 1, 0, 0, 0, 0, 0, 0, 0, 4]);
 }
 
 #[test]
@@ -144,7 +138,6 @@ fn what_lies_beyond_4096_records_stays(rt: HostRuntime) {
         assert_eq!(rt; shelf.put(at(1, 1, 1), entry(5)), Ok(()));
         shelf.empty();
     }
-    assert!(rt;
-        memory[0] == 0 && memory[73_727] == 0 && memory[73_728] == 9 && memory[73_749] == 9
-    );
+    assert!(rt; memory[0] == 0 && memory[73_727] == 0);
+    assert!(rt; memory[73_728..] == [9; 22]);
 }

@@ -2,20 +2,28 @@
 // Fields that a kind does not name are 0.
 #![tactic(auto)]
 
-ghost use Rattle.std.specs.Prelude.{◌≡◌, ◌++◌, length, Some, None, Ok, Err, ◌≢◌};
+ghost use Rattle.std.specs.Prelude.{◌≡◌, ◌++◌, length, Ok, MatchOption, ◌≢◌};
 ghost use Rattle.messages.specs.declared.Message.{Message as AnyMessage};
 ghost use Rattle.words.specs.Words.{four, eight};
-ghost use Rattle.layouts.specs.Layout.{fields, fields_of, message_of, same as one_form, read, encoded, decoded};
+ghost use Rattle.layouts.specs.Layout.{fields, fields_of, message_of, read, encoded, decoded};
 
 use faults::Fault;
 use messages::Message;
-use words::{bytes16, bytes32, bytes64, word16, word32, word64};
 
 // The length of a message's bytes.
 pub const WIDTH: usize = 22;
 
+// The kinds' numbers. An enum of them would need one more table, from the byte that is read.
+const RETRIEVE_ITEMS: u8 = 1;
+
+const REPLICATE: u8 = 2;
+
+const ADD_ITEM: u8 = 3;
+
+const GET_ITEM: u8 = 4;
+
 // What the bytes hold, field by field.
-#[derive(Clone, Copy)]
+#[derive(Clone, Copy, PartialEq, Eq, Default)]
 struct Fields {
     kind: u8,
     replica: u8,
@@ -34,13 +42,11 @@ impl Fields {
     {
         Fields {
             kind,
-            replica: 0,
             to,
             from,
             start,
             end,
-            number: 0,
-            value: 0,
+            ..Fields::default()
         }
     }
 
@@ -52,58 +58,46 @@ impl Fields {
             kind,
             replica,
             to,
-            from: 0,
             start: place,
-            end: 0,
             number,
             value,
+            ..Fields::default()
         }
-    }
-
-    fn same(self, other: Fields) -> bool
-        ensures { result ≡ one_form self other }
-    {
-        self.kind == other.kind
-            && self.replica == other.replica
-            && self.to == other.to
-            && self.from == other.from
-            && self.start == other.start
-            && self.end == other.end
-            && self.number == other.number
-            && self.value == other.value
     }
 }
 
 // What each kind writes into its fields.
-fn fields_of(message: Message) -> Fields
-    ensures { result ≡ fields_of message }
-{
-    match message {
-        Message::RetrieveItems {
-            to,
-            from,
-            start,
-            end,
-        } => Fields::arc(1, to, from, start, end),
-        Message::Replicate {
-            to,
-            from,
-            start,
-            end,
-        } => Fields::arc(2, to, from, start, end),
-        Message::AddItem {
-            to,
-            replica,
-            place,
-            stamp,
-            value,
-        } => Fields::at_place(3, replica, to, place, stamp, value),
-        Message::GetItem {
-            to,
-            replica,
-            place,
-            question,
-        } => Fields::at_place(4, replica, to, place, question, 0),
+impl From<Message> for Fields {
+    ghost from_gives = { λ m f. f ≡ fields_of m };
+
+    fn from(message: Message) -> Fields {
+        match message {
+            Message::RetrieveItems {
+                to,
+                from,
+                start,
+                end,
+            } => Fields::arc(RETRIEVE_ITEMS, to, from, start, end),
+            Message::Replicate {
+                to,
+                from,
+                start,
+                end,
+            } => Fields::arc(REPLICATE, to, from, start, end),
+            Message::AddItem {
+                to,
+                replica,
+                place,
+                stamp,
+                value,
+            } => Fields::at_place(ADD_ITEM, replica, to, place, stamp, value),
+            Message::GetItem {
+                to,
+                replica,
+                place,
+                question,
+            } => Fields::at_place(GET_ITEM, replica, to, place, question, 0),
+        }
     }
 }
 
@@ -111,137 +105,102 @@ fn fields_of(message: Message) -> Fields
 fn message_of(fields: Fields) -> Option<Message>
     ensures { result ≡ message_of fields }
 {
-    let Fields {
-        replica,
-        to,
-        start,
-        number,
-        ..
-    } = fields;
     match fields.kind {
-        1 => Some(Message::RetrieveItems {
-            to,
+        RETRIEVE_ITEMS => Some(Message::RetrieveItems {
+            to: fields.to,
             from: fields.from,
-            start,
+            start: fields.start,
             end: fields.end,
         }),
-        2 => Some(Message::Replicate {
-            to,
+        REPLICATE => Some(Message::Replicate {
+            to: fields.to,
             from: fields.from,
-            start,
+            start: fields.start,
             end: fields.end,
         }),
-        3 => Some(Message::AddItem {
-            to,
-            replica,
-            place: start,
-            stamp: number,
+        ADD_ITEM => Some(Message::AddItem {
+            to: fields.to,
+            replica: fields.replica,
+            place: fields.start,
+            stamp: fields.number,
             value: fields.value,
         }),
-        4 => Some(Message::GetItem {
-            to,
-            replica,
-            place: start,
-            question: number,
+        GET_ITEM => Some(Message::GetItem {
+            to: fields.to,
+            replica: fields.replica,
+            place: fields.start,
+            question: fields.number,
         }),
         _ => None,
     }
 }
 
 // The message of the fields, unless they hold something that its kind does not name.
-fn read_fields(fields: Fields) -> Result<Message, Fault>
-    ensures { result ≡ read fields }
-{
-    let Some(message) = message_of(fields) else {
-        return Err(Fault::Bytes);
-    };
-    if fields_of(message).same(fields) {
-        Ok(message)
-    } else {
-        Err(Fault::Bytes)
+impl TryFrom<Fields> for Message {
+    type Error = Fault;
+
+    ghost try_from_gives = { λ f r. r ≡ read f };
+
+    fn try_from(fields: Fields) -> Result<Message, Fault> {
+        let message = message_of(fields).ok_or(Fault::Bytes)?;
+        if Fields::from(message) == fields {
+            Ok(message)
+        } else {
+            Err(Fault::Bytes)
+        }
     }
 }
 
-pub fn encode(message: Message) -> [u8; 22]
+pub fn encode(message: Message) -> [u8; WIDTH]
     ensures value { result ≡ encoded message }
     ensures back { decoded result ≡ Ok message }
 {
-    let fields = fields_of(message);
-    let [to_high, to_low] = bytes16(fields.to);
-    let [from_high, from_low] = bytes16(fields.from);
-    let [start_high, start_low] = bytes16(fields.start);
-    let [end_high, end_low] = bytes16(fields.end);
-    let [n3, n2, n1, n0] = bytes32(fields.number);
-    let [v7, v6, v5, v4, v3, v2, v1, v0] = bytes64(fields.value);
+    let Fields {
+        kind,
+        replica,
+        to,
+        from,
+        start,
+        end,
+        number,
+        value,
+    } = Fields::from(message);
+    let [t1, t0] = to.to_be_bytes();
+    let [f1, f0] = from.to_be_bytes();
+    let [s1, s0] = start.to_be_bytes();
+    let [e1, e0] = end.to_be_bytes();
+    let [n3, n2, n1, n0] = number.to_be_bytes();
+    let [v7, v6, v5, v4, v3, v2, v1, v0] = value.to_be_bytes();
     [
-        fields.kind,
-        fields.replica,
-        to_high,
-        to_low,
-        from_high,
-        from_low,
-        start_high,
-        start_low,
-        end_high,
-        end_low,
-        n3,
-        n2,
-        n1,
-        n0,
-        v7,
-        v6,
-        v5,
-        v4,
-        v3,
-        v2,
-        v1,
+        kind, replica, t1, t0, f1, f0, s1, s0, e1, e0, n3, n2, n1, n0, v7, v6, v5, v4, v3, v2, v1,
         v0,
     ]
 }
 
 // The last twelve bytes: a number and a value.
 fn numbers(bytes: &[u8]) -> Option<(u32, u64)>
-    ensures { elim result [ Some pair ↦ bytes.now ≡ four pair.0 ++ eight pair.1 | None ↦ (length bytes.now ≢ 12) ] }
+    ensures { MatchOption result (length bytes.now ≢ 12) (λ pair. bytes.now ≡ four pair.0 ++ eight pair.1) }
 {
-    let [n3, n2, n1, n0, v7, v6, v5, v4, v3, v2, v1, v0] = bytes else {
-        return None;
-    };
-    let number = word32(word16(*n3, *n2), word16(*n1, *n0));
-    let high = word32(word16(*v7, *v6), word16(*v5, *v4));
-    let low = word32(word16(*v3, *v2), word16(*v1, *v0));
-    Some((number, word64(high, low)))
+    let (number, value) = bytes.split_first_chunk()?;
+    let value = value.try_into().ok()?;
+    Some((u32::from_be_bytes(*number), u64::from_be_bytes(value)))
 }
 
 pub fn decode(bytes: &[u8]) -> Result<Message, Fault>
     ensures value { result ≡ decoded bytes.now }
     ensures form { (m : AnyMessage) → result ≡ Ok m → bytes.now ≡ encoded m }
 {
-    let [
-        kind,
-        replica,
-        to_high,
-        to_low,
-        from_high,
-        from_low,
-        start_high,
-        start_low,
-        end_high,
-        end_low,
-        rest @ ..,
-    ] = bytes
-    else {
+    let [kind, replica, t1, t0, f1, f0, s1, s0, e1, e0, rest @ ..] = bytes else {
         return Err(Fault::Bytes);
     };
-    let Some((number, value)) = numbers(rest) else {
-        return Err(Fault::Bytes);
-    };
-    read_fields(Fields {
+    let (number, value) = numbers(rest).ok_or(Fault::Bytes)?;
+    Message::try_from(Fields {
         kind: *kind,
         replica: *replica,
-        to: word16(*to_high, *to_low),
-        from: word16(*from_high, *from_low),
-        start: word16(*start_high, *start_low),
-        end: word16(*end_high, *end_low),
+        to: u16::from_be_bytes([*t1, *t0]),
+        from: u16::from_be_bytes([*f1, *f0]),
+        start: u16::from_be_bytes([*s1, *s0]),
+        end: u16::from_be_bytes([*e1, *e0]),
         number,
         value,
     })

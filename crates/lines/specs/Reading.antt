@@ -1,11 +1,12 @@
 -- Reading a sheet line by line. Assumes nothing.
-use Rattle.std.specs.Prelude.{◌≡◌, ℕ, ◌+◌, ◌<◌, Bool, true, false, List, [], ◌∷◌, length}
+use Rattle.std.specs.Prelude.{◌≡◌, ℕ, ◌+◌, ◌<◌, List, [], ◌∷◌, length, Some, None, Option}
+use Rattle.lines.specs.declared.line.Line.{Line}
 use Rattle.lines.specs.declared.lines.Lines.{Lines}
 use Rattle.lines.specs.Texts.{lines_of}
 
--- the present line
-abbrev pub line_of : Lines → List ℕ
-line_of l = l.line.now
+-- the bytes of a line
+abbrev pub line_of : Line → List ℕ
+line_of l = l.text.now
 
 -- the lines that are left
 abbrev pub left_of : Lines → List (List ℕ)
@@ -15,7 +16,7 @@ left_of l = lines_of l.rest.now
 abbrev pub bytes_left : Lines → ℕ
 bytes_left l = length l.rest.now
 
--- the next line is the present one, or there is none
-abbrev pub Advances : Lines → Bool → Lines → Type 0
-Advances l true l' = (left_of l ≡ line_of l' ∷ left_of l') × (l'.number ≡ l.number + 1) × (bytes_left l' < bytes_left l)
-Advances l false l' = (left_of l ≡ []) × (line_of l' ≡ []) × (left_of l' ≡ []) × (l'.number ≡ l.number)
+-- the next line is read, or there is none
+abbrev pub Advances : Lines → Option Line → Lines → Type 0
+Advances l (Some line) l' = (left_of l ≡ line_of line ∷ left_of l') × (line.number ≡ l.number + 1) × (l'.number ≡ l.number + 1) × (bytes_left l' < bytes_left l)
+Advances l None l' = (left_of l ≡ []) × (l' ≡ l)

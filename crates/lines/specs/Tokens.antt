@@ -1,6 +1,8 @@
 -- What a field can be, and the number that it writes. Assumes nothing.
 use Rattle.std.specs.Prelude.{◌≡◌, ℕ, ◌+◌, ◌-◌, ◌*◌, ◌^◌, Bool, true, false, cond, not, ◌&&◌, List, [], ◌∷◌, length, Some, None, Option, ◌==◌, nat_le, nat_lt}
-use Rattle.std.specs.Str.{all_ascii_digits, bytes_eq}
+use Rattle.std.specs.Char.{is_ascii_digit}
+use Rattle.std.specs.List.{list_all}
+use Rattle.std.specs.Str.{bytes_eq}
 use Rattle.lines.specs.declared.tokens.Place.{Place}
 use Rattle.lines.specs.declared.tokens.Token.{Token}
 use Rattle.lines.specs.declared.tokens.Token.TheVariants.{Word, Number, Dash}
@@ -11,7 +13,7 @@ is_dash t = bytes_eq t (45 ∷ [])
 
 -- digits and nothing else, one at least
 abbrev pub is_digits : List ℕ → Bool
-is_digits t = not (length t == 0) && all_ascii_digits t
+is_digits t = not (length t == 0) && list_all is_ascii_digit t
 
 -- the number that digits write, after a number so far
 abbrev pub written : ℕ → List ℕ → ℕ

@@ -1,12 +1,73 @@
-// A sheet that is being read.
-ghost use Rattle.std.specs.Prelude.{◌+◌, ◌≤◌, length};
+// A sheet, line by line.
+ghost use Rattle.std.specs.Prelude.{◌≡◌, ◌+◌, ◌≤◌, [], length, take};
+ghost use Rattle.std.specs.List.{before_first, after_first};
+ghost use Rattle.std.specs.Iterator.{at_most};
+ghost use Rattle.lines.specs.Texts.{lines_of, sheet_limit, is_line_end};
 
-// The present line, its number from 1, and what comes after it. Before the first line the number is 0 and the line empty.
+use crate::line::Line;
+
+// How many bytes of a sheet are read.
+pub const SHEET_LIMIT: usize = 16_384;
+
+// The lines of a sheet that are left, and how many were read.
 #[derive(Drop)]
 pub struct Lines<'s> {
-    pub(crate) line: &'s [u8],
     pub(crate) number: u16,
     pub(crate) rest: &'s [u8],
-    ghost short: { length line.now ≤ 16384 },
     ghost within: { number + length rest.now ≤ 16384 },
+}
+
+// The bytes before the first line end, and those after it.
+fn cut_line(bytes: &[u8]) -> (&[u8], &[u8])
+    ensures front { result.0.now ≡ before_first is_line_end bytes.now }
+    ensures back { result.1.now ≡ after_first is_line_end bytes.now }
+{
+    match bytes.iter().position(|b| *b == b'\n') {
+        Some(i) => (&bytes[..i], &bytes[i + 1..]),
+        None => (bytes, &[]),
+    }
+}
+
+impl<'s> Lines<'s> {
+    ghost use Rattle.lines.specs.Reading.{left_of, bytes_left};
+
+    pub fn new(sheet: &'s [u8]) -> Lines<'s>
+        ensures rest { left_of result ≡ lines_of (take sheet_limit sheet.now) }
+        ensures number { result.number ≡ 0 }
+    {
+        let end = SHEET_LIMIT.min(sheet.len());
+        Lines {
+            number: 0,
+            rest: &sheet[..end],
+        }
+    }
+
+    // Ends the sheet: no line is left.
+    pub fn close(&mut self)
+        ensures rest { left_of self.new ≡ [] }
+        ensures bytes { bytes_left self.new ≡ 0 }
+        ensures number { self.new.number ≡ self.old.number }
+    {
+        self.rest = &[];
+    }
+}
+
+impl<'s> Iterator for Lines<'s> {
+    ghost use Rattle.lines.specs.Reading.{bytes_left, Advances};
+
+    type Item = Line<'s>;
+
+    ghost next_gives = { Advances };
+
+    ghost remaining = { λ l. at_most (bytes_left l) };
+
+    fn next(&mut self) -> Option<Line<'s>> {
+        if self.rest.is_empty() {
+            return None;
+        }
+        let (text, rest) = cut_line(self.rest);
+        let number = self.number + 1;
+        *self = Lines { number, rest };
+        Some(Line { text, number })
+    }
 }

@@ -1,7 +1,9 @@
 // A field of a sheet: which bytes it has, and where it stands.
 ghost use Rattle.std.specs.Prelude.{◌≡◌, if◌then◌else◌, None};
-ghost use Rattle.std.specs.Str.{all_ascii_digits, bytes_eq};
-ghost use Rattle.lines.specs.Tokens.{TokenOf, text_of, is_dash_token, is_number_token, number_of, is_dash, is_digits};
+ghost use Rattle.std.specs.Char.{is_ascii_digit};
+ghost use Rattle.std.specs.List.{list_all};
+ghost use Rattle.std.specs.Str.{bytes_eq};
+ghost use Rattle.lines.specs.Tokens.{TokenOf, text_of, is_dash_token, is_number_token, number_of, is_digits};
 
 // Both count from 1; a column is a field's number in its line.
 #[derive(Clone, Copy, PartialEq, Eq, Debug)]
@@ -10,6 +12,7 @@ pub struct Place {
     pub column: u16,
 }
 
+// Each case carries the text and its place: a token is a word, a number field or a dash, and each borrows the sheet's bytes.
 #[derive(Clone, Copy)]
 pub enum Token<'s> {
     // anything else, the empty field included
@@ -25,23 +28,26 @@ impl<'s> Token<'s> {
     pub fn of(text: &'s [u8], at: Place) -> Token<'s>
         ensures { TokenOf text.now at result }
     {
-        if is_dash(text) {
-            Token::Dash { text, at }
-        } else if is_digits(text) {
-            Token::Number { text, at }
-        } else {
-            Token::Word { text, at }
+        match text {
+            b"-" => Token::Dash { text, at },
+            _ if is_digits(text) => Token::Number { text, at },
+            _ => Token::Word { text, at },
+        }
+    }
+
+    pub fn text(self) -> &'s [u8]
+        ensures { result.now ≡ text_of self.entry }
+    {
+        match self {
+            Token::Word { text, .. } | Token::Number { text, .. } | Token::Dash { text, .. } =>
+                text,
         }
     }
 
     pub fn is_dash(self) -> bool
         ensures { result ≡ is_dash_token self.entry }
     {
-        match self {
-            Token::Word { .. } => false,
-            Token::Number { .. } => false,
-            Token::Dash { .. } => true,
-        }
+        matches!(self, Token::Dash { .. })
     }
 
     // The number of a number field that can be read.
@@ -49,9 +55,8 @@ impl<'s> Token<'s> {
         ensures { result ≡ (if is_number_token self.entry then number_of (text_of self.entry) else None) }
     {
         match self {
-            Token::Word { .. } => None,
             Token::Number { text, .. } => read_number(text),
-            Token::Dash { .. } => None,
+            _ => None,
         }
     }
 
@@ -59,35 +64,14 @@ impl<'s> Token<'s> {
     pub fn says(self, word: &str) -> bool
         ensures { result ≡ bytes_eq (text_of self.entry) word.now }
     {
-        match self {
-            Token::Word { text, .. } => same(text, word.as_bytes()),
-            Token::Number { text, .. } => same(text, word.as_bytes()),
-            Token::Dash { text, .. } => same(text, word.as_bytes()),
-        }
+        self.text() == word.as_bytes()
     }
-}
-
-fn same(text: &[u8], other: &[u8]) -> bool
-    ensures { result ≡ bytes_eq text.now other.now }
-{
-    text == other
-}
-
-fn is_dash(text: &[u8]) -> bool
-    ensures { result ≡ is_dash text.now }
-{
-    same(text, b"-")
 }
 
 fn all_digits(text: &[u8]) -> bool
-    ensures { result ≡ all_ascii_digits text.now }
+    ensures { result ≡ list_all is_ascii_digit text.now }
 {
-    for byte in text {
-        if !byte.is_ascii_digit() {
-            return false;
-        }
-    }
-    true
+    text.iter().all(|b| b.is_ascii_digit())
 }
 
 fn is_digits(text: &[u8]) -> bool
@@ -103,13 +87,5 @@ fn read_number(text: &[u8]) -> Option<u64>
     if text.len() > 20 || !is_digits(text) {
         return None;
     }
-    let mut n: u64 = 0;
-    for byte in text {
-        let digit = byte.saturating_sub(b'0') as u64;
-        if n > (u64::MAX - digit) / 10 {
-            return None;
-        }
-        n = 10 * n + digit;
-    }
-    Some(n)
+    str::from_utf8(text).ok()?.parse().ok()
 }

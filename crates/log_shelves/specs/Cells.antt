@@ -7,7 +7,8 @@ use Rattle.copies.specs.declared.Edit.TheVariants.{Put, Take, Empty}
 use Rattle.copies.specs.Copies.{find}
 use Rattle.logs.specs.declared.lines.Line.{Line}
 use Rattle.logs.specs.Logs.{kept, gone, squeezed, copies_of}
-use Rattle.log_shelves.specs.Trays.{Held, places_in, records_in}
+use Rattle.rows.specs.Trays.{Held}
+use Rattle.log_shelves.specs.Trays.{places_in, records_in}
 
 -- how many records there is memory for, and those in use
 pub record Cells : Type 0 where
@@ -17,7 +18,7 @@ pub record Cells : Type 0 where
 abbrev pub cells : ℕ → List Line → Cells
 cells size records = record { size = size; records = records }
 
-abbrev pub cells_of : Held → Cells
+abbrev pub cells_of : Held Line → Cells
 cells_of h = cells (places_in h) (records_in h)
 
 -- with no free record the live records of other coordinates than c move together
@@ -28,9 +29,11 @@ abbrev pub after_put : ℕ → Coordinate → Entry → List Line → List Line
 after_put size c e xs = cond (nat_lt (length (roomy size c xs)) size) (roomy size c xs ++ kept c e ∷ []) xs
 
 -- a gone record is written only where there is a free one
+abbrev pub without : ℕ → Coordinate → List Line → List Line
+without size c xs = cond (nat_lt (length xs) size) (xs ++ gone c ∷ []) (squeezed c xs)
+
 abbrev pub after_take : ℕ → Coordinate → List Line → List Line
-after_take size c xs =
-    cond (is_some (find (copies_of xs) c)) (cond (nat_lt (length xs) size) (xs ++ gone c ∷ []) (squeezed c xs)) xs
+after_take size c xs = cond (is_some (find (copies_of xs) c)) (without size c xs) xs
 
 abbrev pub edited : Cells → Edit → Cells
 edited k (Put c e) = cells k.size (after_put k.size c e k.records)

@@ -1,31 +1,29 @@
-ghost use Rattle.std.proofs.Common.{lit<};
-ghost use Rattle.std.specs.Prelude.{◌≡◌, ◌-◌, ◌*◌, ◌/◌, [], ◌++◌, length};
-ghost use Rattle.std.proofs.Math.Nat.{min-le_right};
-ghost use Rattle.std.specs.List.{flat_map};
+// The shelf over a tray: its promises, by the records of its log.
+ghost use Rattle.std.proofs.Common.{ap, lit<, arith};
+ghost use Rattle.std.specs.Prelude.{◌≡◌};
 ghost use Rattle.copies.proofs.Records.{ordered_from_records};
-ghost use Rattle.rows.specs.Bytes.{zeros};
-ghost use Rattle.rows.specs.Rows.{size_in, beyond_in};
 ghost use Rattle.rows.specs.Ground.{Ground};
-ghost use Rattle.logs.specs.Lines.{line_bytes};
+ghost use Rattle.rows.specs.Trays.{blank, memory_of};
+ghost use Rattle.rows.proofs.Trays.{within as fits_in};
+ghost use Rattle.logs.specs.Lines.{line_form};
 ghost use Rattle.logs.specs.Logs.{copies_of, meaning_of};
 ghost use Rattle.log_shelves.specs.Trays.{places_in, records_in};
-ghost use Rattle.log_shelves.specs.Held.{held_in, place_of, ground_of};
+ghost use Rattle.log_shelves.specs.Held.{held_in};
 ghost use Rattle.log_shelves.specs.Cells.{Cells, cells_of, edited};
 ghost use Rattle.log_shelves.specs.Fits.{kept_fits};
 
-use crate::LogShelf;
-use crate::tray::{LARGEST_SHELF, Tray};
+use crate::records::{keep, lose};
+use crate::{LARGEST_SHELF, LogShelf};
 use copies::{Coordinate, CopyRecord, Entry};
 use faults::Fault;
 use holders::{Holder, Shelf};
+use logs::{find_in, next_in};
+use rows::Tray;
 
 impl<'a> LogShelf<'a> {
     // A shelf with no copy, of as many records as the memory has 18 bytes, at most 4,096. Writes zeros there.
     pub fn make(memory: &'a mut [u8]) -> LogShelf<'a>
-        ensures after { records_in (held_in result.tray) ≡ [] }
-        ensures size { places_in (held_in result.tray) ≡ size_in 18 4096 memory.old }
-        ensures beyond { beyond_in 18 4096 result.tray.bytes.now ≡ beyond_in 18 4096 memory.old }
-        ensures same { place_of result.tray ≡ memory.entry.ghost_name }
+        ensures { held_in result.tray ≡ blank 18 4096 memory.entry.ghost_name memory.old }
     {
         LogShelf {
             tray: Tray::make(memory),
@@ -35,8 +33,8 @@ impl<'a> LogShelf<'a> {
 
     // Hands the memory back: the records in order, zeros up to the last whole one, and what lies beyond.
     pub fn into_memory(self) -> &'a mut [u8]
-        ensures value { result.now ≡ flat_map line_bytes (records_in (held_in self.entry.tray)) ++ (zeros (18 * (places_in (held_in self.entry.tray) - length (records_in (held_in self.entry.tray)))) ++ beyond_in 18 4096 self.entry.tray.bytes.now) }
-        ensures same { result.ghost_name ≡ place_of self.entry.tray }
+        ensures value { result.now ≡ memory_of line_form (held_in self.entry.tray) }
+        ensures same { result.ghost_name ≡ (held_in self.entry.tray).ground.place }
     {
         let tray = self.tray;
         tray.into_memory()
@@ -54,13 +52,7 @@ impl<'a> Holder for LogShelf<'a> {
 
     ghost Frame = { Ground };
 
-    ghost frame = { λ s. ground_of s.tray };
-
-    ghost within = { λ s. kept_fits (held_in s.tray) s.kept s.inside s.counted };
-
-    ghost bounded = { λ s. min-le_right (length s.tray.bytes.now / 18) 4096 };
-
-    ghost counted = { lit< tt };
+    ghost frame = { λ s. (held_in s.tray).ground };
 
     fn limit() -> usize
         ensures { result ≡ 4096 }
@@ -77,15 +69,20 @@ impl<'a> Holder for LogShelf<'a> {
     }
 
     fn empty(&mut self) {
-        self.tray.empty();
-        self.kept = 0;
+        self.clear();
     }
+
+    ghost within = { λ s. kept_fits (held_in s.tray) s.kept (fits_in line_form s.tray) s.counted };
+
+    ghost bounded = { λ s. Prim.omega arith };
+
+    ghost sized = { λ s t e. ap (λ g. g.size) e };
+
+    ghost counted = { lit< tt };
 }
 
 impl<'a> Shelf for LogShelf<'a> {
     ghost meaning = { λ s. meaning_of (records_in (held_in s.tray)) };
-
-    ghost ordered = { λ s. ordered_from_records (copies_of (records_in (held_in s.tray))) };
 
     ghost Cells = { Cells };
 
@@ -93,42 +90,40 @@ impl<'a> Shelf for LogShelf<'a> {
 
     ghost after = { edited };
 
-    fn count(&self) -> usize {
-        self.kept
-    }
-
     fn find(&self, at: Coordinate) -> Option<Entry> {
-        self.tray.find(at)
+        find_in(self.tray.in_use(), at)
     }
 
     fn next(&self, peer: u16, low: u16, high: u16) -> Option<CopyRecord> {
-        self.tray.next(peer, low, high)
+        next_in(self.tray.in_use(), peer, low, high)
     }
 
     fn put(&mut self, at: Coordinate, entry: Entry) -> Result<(), Fault> {
-        if self.tray.find(at).is_some() {
-            self.tray.keep(at, entry);
+        if self.find(at).is_some() {
+            keep(&mut self.tray, at, entry);
             return Ok(());
         }
-        if self.kept >= self.tray.size() {
+        if self.kept >= self.size() {
             return Err(Fault::ShelfFull(0));
         }
-        self.tray.keep(at, entry);
+        keep(&mut self.tray, at, entry);
         self.kept += 1;
         Ok(())
     }
 
     fn take(&mut self, at: Coordinate) -> Option<Entry> {
-        let entry = self.tray.find(at);
-        if entry.is_some() {
-            self.tray.lose(at);
-            self.kept -= 1;
-        }
-        entry
+        let entry = self.find(at)?;
+        lose(&mut self.tray, at);
+        self.kept -= 1;
+        Some(entry)
     }
 
     fn clear(&mut self) {
-        self.tray.empty();
+        self.tray.clear();
         self.kept = 0;
     }
+
+    ghost counted = { λ s. s.counted };
+
+    ghost ordered = { λ s. ordered_from_records (copies_of (records_in (held_in s.tray))) };
 }

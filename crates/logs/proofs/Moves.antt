@@ -1,18 +1,34 @@
 -- Compaction in place: what moved to the front, and what is not read yet.
-use Rattle.std.proofs.Common.{◌≡◌, ℕ, zero, suc, ◌+◌, ◌-◌, ◌*◌, ◌/◌, ◌<◌, ◌≤◌, true, false, ◌&&◌, leb, List, ◌∷◌, ◌++◌, length, take, drop, sym, refl, ap, ◌∙◌, subst, append_assoc, arith}
-use Rattle.std.specs.List.{flat_map}
-use Rattle.std.proofs.lemmas.List.{append-nil, drop-drop, take_at, drop_at, length-take-le, length-append}
-use Rattle.std.proofs.lemmas.Bool.{cond-true, and_from, le-leb}
+use Rattle.std.proofs.Common.{◌≡◌, ℕ, zero, suc, ◌+◌, ◌-◌, ◌*◌, ◌/◌, ◌<◌, ◌≤◌, true, false, List, [], ◌∷◌, ◌++◌, map, length, get_or, take, drop, sym, refl, ap, ◌∙◌, subst, append_assoc, arith}
+use Rattle.std.specs.List.{flat_map, copy_within}
+use lib.Seq.{paste}
+use borrow.Rule.Slice.PartMut.{put_mid}
+use Rattle.std.proofs.lemmas.Slice.{put_mid-paste}
+use Rattle.std.proofs.lemmas.List.Edits.{paste_all}
+use Rattle.std.proofs.lemmas.List.{append-nil, drop_more, drop_all, drop-drop, length-replicate, take_at, drop_at, length-take-le, length-append}
 use Rattle.copies.specs.declared.Coordinate.{Coordinate}
 use Rattle.copies.specs.Copies.{same}
-use Rattle.rows.specs.Bytes.{zeros, written, cleared}
-use Rattle.rows.specs.Rows.{rows_in}
-use Rattle.rows.proofs.Laid.{length_joined}
+use Rattle.rows.specs.Bytes.{zeros}
+use Rattle.rows.specs.Rows.{rows_in, length_rows}
+use Rattle.rows.proofs.Laid.{length_joined, rows_at}
 use Rattle.logs.specs.declared.lines.Line.{Line}
 use Rattle.logs.specs.Lines.{line_bytes, line_in, line_form}
 use Rattle.logs.specs.Logs.{lasts, squeezed}
+use Rattle.logs.specs.Reads.{clipped, lines_in}
+use Rattle.logs.proofs.Records.{line_first, chunk_at}
+use Rattle.logs.proofs.Loops.{later_lines}
+use Rattle.std.specs.Simd.{first_chunks}
 use Rattle.logs.proofs.Meanings.{squeezed_in, squeezed_out}
-use Rattle.logs.proofs.Loops.{here, none_left}
+
+-- the record at i, and the lack of one
+here : (n : ℕ) (bs : List ℕ) (i : ℕ) (r : Line) → i < n → r ≡ line_in (drop (18 * i) bs) → drop i (rows_in line_form n bs) ≡ r ∷ drop (i + 1) (rows_in line_form n bs)
+here n bs i r h e =
+    let rows = rows_in line_form n bs in
+    let l : i < length rows = omega (arith, length_rows line_form n bs) in
+    drop_more rows i r l ∙ ap (λ t. t ∷ drop (i + 1) rows) (rows_at line_form n bs i r h ∙ sym e)
+
+none_left : (n : ℕ) (bs : List ℕ) (i : ℕ) → n ≤ i → drop i (rows_in line_form n bs) ≡ []
+none_left n bs i h = drop_all i (rows_in line_form n bs) (omega (arith, length_rows line_form n bs))
 
 -- of n records in bs, i are read and `moved` of them stand at the front
 pub record Moved (n : ℕ) (bs now : List ℕ) (at : Coordinate) (i moved : ℕ) : Type 0 where
@@ -61,27 +77,26 @@ moved_past n bs now at i moved r m h e k =
       front = ap (λ t. take (18 * moved) now ++ flat_map line_bytes t) (sym (squeezed_here n bs at i r _ h (read_here n bs now at i moved r m e) k)) ∙ m.front;
     }
 
--- a record that moves
-pub moved_in : (n : ℕ) (bs now : List ℕ) (at : Coordinate) (i moved : ℕ) (r : Line) (row after : List ℕ) → Moved n bs now at i moved → i < n → n ≤ length now / 18 → r ≡ line_in (drop (18 * i) now) → same r.at at ≡ false → lasts r (drop (i + 1) (rows_in line_form n now)) ≡ true → row ≡ line_bytes r → after ≡ written now (18 * moved) row → Moved n bs after at (i + 1) (moved + 1)
-moved_in n bs now at i moved r row after m h fits e other lives form w =
+-- a record that moves: its bytes are copied to the front
+pub moved_in : (n : ℕ) (bs now : List ℕ) (at : Coordinate) (i moved : ℕ) (r : Line) (after : List ℕ) → Moved n bs now at i moved → i < n → n ≤ length now / 18 → r ≡ line_in (drop (18 * i) now) → line_bytes r ≡ take 18 (drop (18 * i) now) → same r.at at ≡ false → lasts r (drop (i + 1) (rows_in line_form n now)) ≡ true → after ≡ copy_within now (18 * i) (18 * (i + 1)) (18 * moved) → Moved n bs after at (i + 1) (moved + 1)
+moved_in n bs now at i moved r after m h fits e form other lives w =
     let few = m.few in
-    let wide : length row ≡ 18 = ap length form in
+    let row = line_bytes r in
+    let width : 18 * (i + 1) - 18 * i ≡ 18 = omega arith in
     let rest = drop (i + 1) (rows_in line_form n bs) in
-    let room : 18 * moved + length row ≤ length now = omega arith in
     let front = take (18 * moved) now in
-    let tail = drop (18 * moved + length row) now in
+    let tail = drop (18 * (moved + 1)) now in
     let fl : length front ≡ 18 * moved = length-take-le (18 * moved) now (omega arith) in
-    let is : after ≡ front ++ (row ++ tail) = w ∙ cond-true (leb (18 * moved + length row) (length now)) _ now (le-leb (18 * moved + length row) (length now) room) in
-    let both : after ≡ (front ++ row) ++ tail = is ∙ sym (append_assoc front row tail) in
+    let next : 18 * moved + 18 ≡ 18 * (moved + 1) = omega arith in
+    let both : after ≡ (front ++ row) ++ tail = w ∙ (ap (λ k. paste now (18 * moved) (drop (18 * i) now) k) width ∙ (ap (λ k. (front ++ take 18 (drop (18 * i) now)) ++ drop k now) next ∙ ap (λ t. (front ++ t) ++ tail) (sym form))) in
     let gap : length (front ++ row) ≡ 18 * (moved + 1) = length-append front row ∙ omega arith in
-    let next : 18 * moved + length row ≡ 18 * (moved + 1) = omega arith in
     let live : lasts r rest ≡ true = ap (lasts r) (sym (read_later n bs now at i moved m)) ∙ lives in
     let more = squeezed at rest in
     let sq = squeezed_here n bs at i r (r ∷ more) h (read_here n bs now at i moved r m e) (squeezed_in at r rest live other) in
     record {
       few = omega arith;
-      unread = ap (drop (18 * (moved + 1))) both ∙ (drop_at (front ++ row) tail (18 * (moved + 1)) gap ∙ (ap (λ k. drop k now) next ∙ later now bs (18 * moved) (18 * (moved + 1)) (omega arith) m.unread));
-      front = ap (λ t. t ++ flat_map line_bytes more) (ap (take (18 * (moved + 1))) both ∙ take_at (front ++ row) tail (18 * (moved + 1)) gap) ∙ (append_assoc front row (flat_map line_bytes more) ∙ (ap (λ t. front ++ (t ++ flat_map line_bytes more)) form ∙ (ap (λ t. front ++ flat_map line_bytes t) (sym sq) ∙ m.front)));
+      unread = ap (drop (18 * (moved + 1))) both ∙ (drop_at (front ++ row) tail (18 * (moved + 1)) gap ∙ later now bs (18 * moved) (18 * (moved + 1)) (omega arith) m.unread);
+      front = ap (λ t. t ++ flat_map line_bytes more) (ap (take (18 * (moved + 1))) both ∙ take_at (front ++ row) tail (18 * (moved + 1)) gap) ∙ (append_assoc front row (flat_map line_bytes more) ∙ (ap (λ t. front ++ flat_map line_bytes t) (sym sq) ∙ m.front));
     }
 
 -- all are read
@@ -89,7 +104,7 @@ pub record Done (n : ℕ) (bs left : List ℕ) (at : Coordinate) (moved : ℕ) :
   pub value : moved ≡ length (squeezed at (rows_in line_form n bs))
   pub after : left ≡ flat_map line_bytes (squeezed at (rows_in line_form n bs)) ++ (zeros (18 * (n - length (squeezed at (rows_in line_form n bs)))) ++ drop (18 * n) bs)
 
-pub moved_end : (n : ℕ) (bs now : List ℕ) (at : Coordinate) (i moved : ℕ) (after : List ℕ) → Moved n bs now at i moved → i ≡ n → n ≤ length now / 18 → after ≡ cleared now (18 * moved) (18 * n) → Done n bs after at moved
+moved_end : (n : ℕ) (bs now : List ℕ) (at : Coordinate) (i moved : ℕ) (after : List ℕ) → Moved n bs now at i moved → i ≡ n → n ≤ length now / 18 → after ≡ take (18 * moved) now ++ (zeros (18 * n - 18 * moved) ++ drop (18 * n) now) → Done n bs after at moved
 moved_end n bs now at i moved after m all fits w =
     let few = m.few in
     let rows = rows_in line_form n bs in
@@ -100,11 +115,20 @@ moved_end n bs now at i moved after m all fits w =
     let same_length = ap length front in
     let count : moved ≡ length sq = omega arith in
     let left : 18 * n - 18 * moved ≡ 18 * (n - length sq) = omega arith in
-    let is = w ∙ cond-true (leb (18 * moved) (18 * n) && leb (18 * n) (length now)) _ now (and_from (leb (18 * moved) (18 * n)) (leb (18 * n) (length now)) (le-leb (18 * moved) (18 * n) (omega arith)) (le-leb (18 * n) (length now) (omega arith))) in
     record {
       value = count;
-      after = is ∙ (ap (λ t. t ++ (zeros (18 * n - 18 * moved) ++ drop (18 * n) now)) front ∙ (ap (λ k. flat_map line_bytes sq ++ (zeros k ++ drop (18 * n) now)) left ∙ ap (λ t. flat_map line_bytes sq ++ (zeros (18 * (n - length sq)) ++ t)) (later now bs (18 * moved) (18 * n) (omega arith) m.unread)));
+      after = w ∙ (ap (λ t. t ++ (zeros (18 * n - 18 * moved) ++ drop (18 * n) now)) front ∙ (ap (λ k. flat_map line_bytes sq ++ (zeros k ++ drop (18 * n) now)) left ∙ ap (λ t. flat_map line_bytes sq ++ (zeros (18 * (n - length sq)) ++ t)) (later now bs (18 * moved) (18 * n) (omega arith) m.unread)));
     }
+
+pub moved_all : (n : ℕ) (bs now : List ℕ) (used : ℕ) (at : Coordinate) (i moved : ℕ) (after : List ℕ) → Moved n bs now at i moved → n ≡ clipped bs used → i ≡ n → n ≤ length now / 18 → after ≡ take (18 * moved) now ++ (zeros (18 * n - 18 * moved) ++ drop (18 * n) now) → Done (clipped bs used) bs after at moved
+moved_all n bs now used at i moved after m clip all fits w = subst (λ k. Done k bs after at moved) clip (moved_end n bs now at i moved after m all fits w)
+
+-- the zeros that `fill` writes
+pub filled : (a e : ℕ) (xs ys : List ℕ) → a ≤ e → ys ≡ zeros (e - a) → put_mid a (e - a) xs ys ≡ take a xs ++ (zeros (e - a) ++ drop e xs)
+filled a e xs ys h f =
+    let l : length (zeros (e - a)) ≡ e - a = length-replicate (e - a) 0 in
+    let k : a + (e - a) ≡ e = omega arith in
+    put_mid-paste a (e - a) xs ys (zeros (e - a)) (e - a) f refl (sym l) ∙ (paste_all xs a (zeros (e - a)) (e - a) (sym l) ∙ ap (λ n. take a xs ++ (zeros (e - a) ++ drop n xs)) k)
 
 -- a record whose coordinate does not live any more, as the code tells it
 pub moved_out : (n : ℕ) (bs now : List ℕ) (at : Coordinate) (i moved : ℕ) (r : Line) → Moved n bs now at i moved → i < n → r ≡ line_in (drop (18 * i) now) → lasts r (drop (i + 1) (rows_in line_form n now)) ≡ false → Moved n bs now at (i + 1) moved
@@ -114,3 +138,19 @@ moved_out n bs now at i moved r m h e dead =
 pub carried : (n : ℕ) (bs now now' : List ℕ) (at : Coordinate) (i moved moved' : ℕ) → now' ≡ now → moved' ≡ moved → Moved n bs now at i moved → Moved n bs now' at i moved'
 carried n bs now now' at i moved moved' e f m =
     subst (λ t. Moved n bs t at i moved') (sym e) (subst (λ k. Moved n bs now at i k) (sym f) m)
+
+-- ---- what the code reads
+
+whole_clip : (n : ℕ) (now : List ℕ) → n ≤ length now / 18 → clipped now n ≡ n
+whole_clip n now h = omega arith
+
+pub row_read : (n : ℕ) (now : List ℕ) (rows : List (List ℕ)) (i : ℕ) → n ≤ length now / 18 → i < n → rows ≡ first_chunks 18 (clipped now n) now → get_or rows i [] ≡ take 18 (drop (18 * i) now)
+row_read n now rows i fits h e =
+    ap (λ t. get_or t i []) (e ∙ ap (λ k. first_chunks 18 k now) (whole_clip n now fits)) ∙ chunk_at n now i h
+
+pub first_read : (n : ℕ) (now : List ℕ) (rows : List (List ℕ)) (i : ℕ) → n ≤ length now / 18 → i < n → rows ≡ first_chunks 18 (clipped now n) now → line_in (get_or rows i []) ≡ line_in (drop (18 * i) now)
+first_read n now rows i fits h e = ap line_in (row_read n now rows i fits h e) ∙ line_first (drop (18 * i) now)
+
+pub later_read : (n : ℕ) (now : List ℕ) (rows : List (List ℕ)) (i : ℕ) → n ≤ length now / 18 → map line_in rows ≡ lines_in now n → map line_in (take (length rows - i) (drop i rows)) ≡ drop i (rows_in line_form n now)
+later_read n now rows i fits e =
+    later_lines rows i ∙ ap (drop i) (e ∙ ap (λ k. rows_in line_form k now) (whole_clip n now fits))

@@ -1,80 +1,57 @@
-// Searching a log in bytes. The first `used` records count, or all that there are.
-ghost use Rattle.std.specs.Prelude.{◌≡◌, ◌+◌, ◌/◌, ◌<◌, ◌≤◌, length, drop};
-ghost use Rattle.copies.specs.Copies.{find as found, nearer as nearer_of, first_in_range};
-ghost use Rattle.rows.specs.Rows.{rows_in};
-ghost use Rattle.logs.specs.Lines.{line_form};
+// Searching a log by the bytes of its records.
+ghost use Rattle.std.specs.Prelude.{◌≡◌, map, reverse};
+ghost use Rattle.std.specs.List.{find as first_of};
+ghost use Rattle.copies.specs.Copies.{same, find as found, first_in_range};
+ghost use Rattle.logs.specs.Lines.{line_in};
 ghost use Rattle.logs.specs.Logs.{named, lasts, copies_of};
-ghost use Rattle.logs.specs.Reads.{clipped, lines_in};
 
-use crate::lines::{Line, WIDTH, line_at};
+use crate::lines::{Line, WIDTH, line_of};
 use copies::{Coordinate, CopyRecord, Entry};
 
-pub fn clip(bytes: &[u8], used: usize) -> usize
-    ensures { result ≡ clipped bytes.now used }
+// The last record of the coordinate.
+#[tactic(auto, unfolding(copies::specs::Copies::same))]
+fn last_of(records: &[[u8; WIDTH]], at: Coordinate) -> Option<Line>
+    ensures { result ≡ first_of (λ x. same x.at at) (map line_in (reverse records.now)) }
 {
-    used.min(bytes.len() / WIDTH)
+    records.iter().rev().map(line_of).find(|line| line.at == at)
 }
 
 // What the coordinate maps to: the last record of it decides.
-pub fn find_in(bytes: &[u8], used: usize, at: Coordinate) -> Option<Entry>
-    ensures { result ≡ found (copies_of (lines_in bytes.now used)) at }
+pub fn find_in(records: &[[u8; WIDTH]], at: Coordinate) -> Option<Entry>
+    ensures { result ≡ found (copies_of (map line_in records.now)) at }
 {
-    let count = clip(bytes, used);
-    let mut last = None;
-    for i in 0..count {
-        let line = line_at(bytes, i);
-        if line.at.same(at) {
-            last = line.says();
-        }
-    }
-    last
+    last_of(records, at)?.held
 }
 
-// Whether one of the records from `from` on is of the coordinate.
-fn named_from(bytes: &[u8], from: usize, count: usize, at: Coordinate) -> bool
-    requires { count ≤ length bytes.now / 18 }
-    ensures { result ≡ named (drop from (rows_in line_form count bytes.now)) at }
+// Whether one of the records is of the coordinate.
+#[tactic(auto, unfolding(copies::specs::Copies::same))]
+fn is_named(records: &[[u8; WIDTH]], at: Coordinate) -> bool
+    ensures { result ≡ named (map line_in records.now) at }
 {
-    for i in from..count {
-        if line_at(bytes, i).at.same(at) {
-            return true;
-        }
-    }
-    false
+    records.iter().map(line_of).any(|line| line.at == at)
 }
 
-// Whether a record is live that is followed by the records from `from` on.
-pub fn lasts_before(line: Line, bytes: &[u8], from: usize, count: usize) -> bool
-    requires { count ≤ length bytes.now / 18 }
-    ensures { result ≡ lasts line (drop from (rows_in line_form count bytes.now)) }
+// Whether a record is live that is followed by these.
+#[tactic(auto, unfolding(crate::specs::Logs::lasts))]
+pub fn lasts(line: Line, later: &[[u8; WIDTH]]) -> bool
+    ensures { result ≡ lasts line (map line_in later.now) }
 {
-    line.is_live() && !named_from(bytes, from, count, line.at)
-}
-
-// The one that comes before the other.
-fn nearer(copy: CopyRecord, best: Option<CopyRecord>) -> Option<CopyRecord>
-    ensures { result ≡ nearer_of copy best }
-{
-    match best {
-        Some(other) if other.at.before(copy.at) => best,
-        _ => Some(copy),
-    }
+    line.held.is_some() && !is_named(later, line.at)
 }
 
 // The first copy of `peer` with `low` ≤ place ≤ `high`.
-pub fn next_in(bytes: &[u8], used: usize, peer: u16, low: u16, high: u16) -> Option<CopyRecord>
-    ensures { result ≡ first_in_range (copies_of (lines_in bytes.now used)) peer low high }
+pub fn next_in(records: &[[u8; WIDTH]], peer: u16, low: u16, high: u16) -> Option<CopyRecord>
+    ensures { result ≡ first_in_range (copies_of (map line_in records.now)) peer low high }
 {
-    let count = clip(bytes, used);
     let mut best = None;
-    for i in (0..count).rev() {
-        let line = line_at(bytes, i);
-        let copy = CopyRecord {
-            at: line.at,
-            held: line.held,
-        };
-        if copy.in_range(peer, low, high) && lasts_before(line, bytes, i + 1, count) {
-            best = nearer(copy, best);
+    // By place, since the later records say whether one lives.
+    for n in (0..records.len()).rev() {
+        let line = line_of(&records[n]);
+        if let Some(held) = line.held {
+            let copy = CopyRecord { at: line.at, held };
+            if copy.in_range(peer, low, high) && !is_named(&records[n + 1..], copy.at) {
+                best = copy.nearer(best);
+            }
         }
     }
     best

@@ -1,15 +1,12 @@
 // The exact memory of a shelf after a delivery, for each kind of shelf: the ring's edits, one after the other.
+// (`Ring::deliver` says this of any shelf; each function here says it in the words of one kind, which no generic clause can)
 #![tactic(auto)]
 
 ghost use Rattle.std.specs.Prelude.{◌≡◌, fold};
-ghost use Rattle.copies.specs.Copies.{from_records};
 ghost use Rattle.rules.specs.declared.Call.TheVariants.{Deliver};
 ghost use Rattle.rules.specs.Edits.{call_edits};
-ghost use Rattle.racks.specs.Parts.{joined_up, size_of};
 ghost use Rattle.racks.specs.Racks.{parts_of};
 ghost use Rattle.rack_shelves.specs.Cells.{edited};
-ghost use Rattle.logs.specs.Logs.{meaning_of};
-ghost use Rattle.log_shelves.specs.Trays.{places_in, records_in};
 ghost use Rattle.log_shelves.specs.Held.{held_in};
 ghost use Rattle.log_shelves.specs.Cells.{cells_of, edited as logged};
 ghost use Rattle.ring.specs.Views.{viewed, sizes};
@@ -26,7 +23,7 @@ pub fn deliver_over_rack<'r, 's, P: Post<Message>>(
     ring: &mut Ring<'r, RackShelf<'s>, P>,
     n: u64,
 ) -> Answer
-    ensures { parts_of ring.new.shelf.now.rack ≡ fold edited (parts_of ring.old.shelf.now.rack) (call_edits (sizes (λ s. size_of (parts_of s.rack)) P.Holder.room ring.old) (viewed (λ s. from_records (parts_of s.rack).used) P.Post.waiting ring.old) (Deliver n)) }
+    ensures { parts_of ring.new.shelf.now.rack ≡ fold edited (parts_of ring.old.shelf.now.rack) (call_edits (sizes ring.old) (viewed ring.old) (Deliver n)) }
 {
     ring.deliver(n)
 }
@@ -34,10 +31,9 @@ pub fn deliver_over_rack<'r, 's, P: Post<Message>>(
 // A delivery over a log shelf: its records have had the edits of the delivery, in order.
 pub fn deliver_over_log<'r, 's, P: Post<Message>>(
     ring: &mut Ring<'r, LogShelf<'s>, P>,
-    n: u64,
+    position: u64,
 ) -> Answer
-    ensures { cells_of (held_in ring.new.shelf.now.tray) ≡ fold logged (cells_of (held_in ring.old.shelf.now.tray)) (call_edits (sizes (λ s. places_in (held_in s.tray)) P.Holder.room ring.old) (viewed (λ s. meaning_of (records_in (held_in s.tray))) P.Post.waiting ring.old) (Deliver n)) }
+    ensures { cells_of (held_in ring.new.shelf.now.tray) ≡ fold logged (cells_of (held_in ring.old.shelf.now.tray)) (call_edits (sizes ring.old) (viewed ring.old) (Deliver position)) }
 {
-    let answer = ring.deliver(n);
-    answer
+    ring.deliver(position)
 }

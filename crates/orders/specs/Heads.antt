@@ -11,8 +11,8 @@ use Rattle.orders.specs.Columns.{text_in, wrong}
 abbrev pub names_settings : List ℕ → Bool
 names_settings line = length (fields_of line) == 2 && (bytes_eq (text_in line 1) (codes "size") && bytes_eq (text_in line 2) (codes "copies"))
 
-abbrev pub names_fault : List ℕ → Option Fault
-names_fault line = cond (names_settings line) None (Some (wrong line))
+abbrev pub names_of : List ℕ → Result (Unit {0}) Fault
+names_of line = cond (names_settings line) (Ok tt) (Err (wrong line))
 
 -- line 2 has their numbers
 abbrev pub both_read : Option ℕ → Option ℕ → Result (ℕ × ℕ) Fault

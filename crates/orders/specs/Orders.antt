@@ -11,7 +11,7 @@ use Rattle.lines.specs.Tokens.{is_dash, is_readable, number_of}
 use Rattle.orders.specs.declared.columns.Columns.{Columns}
 use Rattle.orders.specs.declared.orders.Verb.{Verb}
 use Rattle.orders.specs.declared.orders.Verb.TheVariants.{Join, Leave, Insert, Lookup, Deliver, Collect}
-use Rattle.orders.specs.Columns.{text_in, first_of, wrong, six_columns}
+use Rattle.orders.specs.Columns.{text_in, first_column, wrong, six_columns}
 
 -- the order that a word gives
 abbrev pub verb_of : List ℕ → Option Verb
@@ -53,12 +53,12 @@ ordered cols line verb (Some c) = Err (Unreadable c)
 ordered cols line None None = Err (Unreadable cols.order)
 ordered cols line (Some verb) None = Ok (call_of cols line verb)
 
-unfoldable pub first_unreadable : Columns → Option Verb → List ℕ → Option ℕ
-first_unreadable cols verb line = first_of (unreadable cols verb line) 1 six_columns
+abbrev pub first_unreadable : Columns → Option Verb → List ℕ → Option ℕ
+first_unreadable cols verb line = first_column (unreadable cols verb line)
 
 abbrev pub order_of : Columns → List ℕ → Option Verb → Result Call Fault
 order_of cols line verb = ordered cols line verb (first_unreadable cols verb line)
 
 -- a line as an order: the call that it asks for, or why it is refused
-unfoldable pub read_order : Columns → List ℕ → Result Call Fault
+abbrev pub read_order : Columns → List ℕ → Result Call Fault
 read_order cols line = cond (length (fields_of line) == six_columns) (order_of cols line (verb_of (text_in line cols.order))) (Err (wrong line))

@@ -1,13 +1,16 @@
 // Which column of a sheet has which name.
 ghost use Rattle.std.specs.Prelude.{◌≡◌};
 ghost use Rattle.lines.specs.Reading.{line_of};
-ghost use Rattle.lines.specs.Tokens.{is_dash, number_of};
+ghost use Rattle.lines.specs.Tokens.{number_of};
 ghost use Rattle.orders.specs.Columns.{text_in, column_of, columns, named_columns, columns_of, wrong};
 
 use faults::Fault;
-use lines::Lines;
+use lines::Line;
 
-// The columns of the six names, counted from 1.
+// How many columns a sheet has.
+pub(crate) const COLUMNS: u16 = 6;
+
+// The columns of the six names, counted from 1. Each has a field: as an array, each use would be an index, and need an enum of the six names.
 #[derive(Clone, Copy)]
 pub struct Columns {
     pub(crate) order: u16,
@@ -35,59 +38,45 @@ impl Columns {
 }
 
 // The fault of a line that has other fields than it should.
-pub(crate) fn wrong_fields(lines: &Lines) -> Fault
-    ensures { result ≡ wrong (line_of lines.now) }
+pub(crate) fn wrong_fields(line: Line) -> Fault
+    ensures { result ≡ wrong (line_of line.entry) }
 {
-    Fault::WrongFields(lines.count() as u64)
+    Fault::WrongFields(u64::from(line.count()))
 }
 
-// The number that the present line has in a column, if it can be read.
-pub(crate) fn number_in(lines: &Lines, column: u16) -> Option<u64>
-    ensures { result ≡ number_of (text_in (line_of lines.now) column) }
+// The number that a line has in a column, if it can be read.
+pub(crate) fn number_in(line: Line, column: u16) -> Option<u64>
+    ensures { result ≡ number_of (text_in (line_of line.entry) column) }
 {
-    lines.field(column).number()
+    line.field(column).number()
 }
 
-pub(crate) fn has_dash(lines: &Lines, column: u16) -> bool
-    ensures { result ≡ is_dash (text_in (line_of lines.now) column) }
+// The column of a line that has a name.
+fn column_of(line: Line, name: &str) -> Option<u16>
+    ensures { result ≡ column_of (line_of line.entry) name.now }
 {
-    lines.field(column).is_dash()
+    (1..COLUMNS + 1).find(|c| line.field(*c).says(name))
 }
 
-// The column of the present line that has a name.
-fn column_of(lines: &Lines, name: &str) -> Option<u16>
-    ensures { result ≡ column_of (line_of lines.now) name.now }
-{
-    for c in 1..7 {
-        if lines.field(c).says(name) {
-            return Some(c);
-        }
-    }
-    None
-}
-
-fn named_columns(lines: &Lines) -> Option<Columns>
-    ensures { result ≡ named_columns (line_of lines.now) }
+fn named_columns(line: Line) -> Option<Columns>
+    ensures { result ≡ named_columns (line_of line.entry) }
 {
     Some(Columns {
-        order: column_of(lines, "order")?,
-        peer: column_of(lines, "peer")?,
-        item: column_of(lines, "item")?,
-        replica: column_of(lines, "replica")?,
-        value: column_of(lines, "value")?,
-        number: column_of(lines, "number")?,
+        order: column_of(line, "order")?,
+        peer: column_of(line, "peer")?,
+        item: column_of(line, "item")?,
+        replica: column_of(line, "replica")?,
+        value: column_of(line, "value")?,
+        number: column_of(line, "number")?,
     })
 }
 
-// The present line as the names of the columns, in any order.
-pub fn read_columns(lines: &Lines) -> Result<Columns, Fault>
-    ensures { result ≡ columns_of (line_of lines.now) }
+// The line as the names of the columns, in any order.
+pub fn read_columns(line: Line) -> Result<Columns, Fault>
+    ensures { result ≡ columns_of (line_of line.entry) }
 {
-    if lines.count() != 6 {
-        return Err(wrong_fields(lines));
+    if line.count() != COLUMNS {
+        return Err(wrong_fields(line));
     }
-    match named_columns(lines) {
-        None => Err(wrong_fields(lines)),
-        Some(columns) => Ok(columns),
-    }
+    named_columns(line).ok_or(wrong_fields(line))
 }

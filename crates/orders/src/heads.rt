@@ -1,40 +1,37 @@
 // The first two lines of a sheet.
 ghost use Rattle.std.specs.Prelude.{◌≡◌};
 ghost use Rattle.lines.specs.Reading.{line_of};
-ghost use Rattle.orders.specs.Heads.{names_settings, names_fault, numbers_of};
+ghost use Rattle.orders.specs.Heads.{names_settings, names_of, numbers_of};
 
 use crate::columns::{number_in, wrong_fields};
 use faults::Fault;
-use lines::Lines;
+use lines::Line;
 
-fn names_settings(lines: &Lines) -> bool
-    ensures { result ≡ names_settings (line_of lines.now) }
+fn names_settings(line: Line) -> bool
+    ensures { result ≡ names_settings (line_of line.entry) }
 {
-    lines.count() == 2 && lines.field(1).says("size") && lines.field(2).says("copies")
+    line.count() == 2 && line.field(1).says("size") && line.field(2).says("copies")
 }
 
-// Why the present line is not the names of the settings.
-pub fn read_names(lines: &Lines) -> Option<Fault>
-    ensures { result ≡ names_fault (line_of lines.now) }
+// The line as the names of the settings.
+pub fn read_names(line: Line) -> Result<(), Fault>
+    ensures { result ≡ names_of (line_of line.entry) }
 {
-    if names_settings(lines) {
-        return None;
+    if names_settings(line) {
+        Ok(())
+    } else {
+        Err(wrong_fields(line))
     }
-    Some(wrong_fields(lines))
 }
 
-// The present line as the two numbers of the settings.
-pub fn read_numbers(lines: &Lines) -> Result<(u64, u64), Fault>
-    ensures { result ≡ numbers_of (line_of lines.now) }
+// The line as the two numbers of the settings.
+pub fn read_numbers(line: Line) -> Result<(u64, u64), Fault>
+    ensures { result ≡ numbers_of (line_of line.entry) }
 {
-    if lines.count() != 2 {
-        return Err(wrong_fields(lines));
+    if line.count() != 2 {
+        return Err(wrong_fields(line));
     }
-    let Some(size) = number_in(lines, 1) else {
-        return Err(Fault::Unreadable(1));
-    };
-    let Some(copies) = number_in(lines, 2) else {
-        return Err(Fault::Unreadable(2));
-    };
+    let size = number_in(line, 1).ok_or(Fault::Unreadable(1))?;
+    let copies = number_in(line, 2).ok_or(Fault::Unreadable(2))?;
     Ok((size, copies))
 }

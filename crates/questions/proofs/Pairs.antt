@@ -1,22 +1,32 @@
 -- A list of bytes taken two at a time. Assumes nothing.
-use Rattle.std.proofs.Common.{◌≡◌, ℕ, ◌+◌, ◌-◌, ◌*◌, ◌<◌, ◌≤◌, ◌||◌, List, [], ◌∷◌, length, get_or, take, drop, sym, refl, ap, ◌∙◌, arith}
-use Rattle.std.proofs.lemmas.List.{take_rest}
-use Rattle.std.proofs.lemmas.Bool.{lt-leb}
+use Rattle.std.proofs.Common.{◌≡◌, ℕ, suc, ◌+◌, ◌*◌, ◌/◌, ◌%◌, w16, Bool, true, false, ◌||◌, leb, List, [], ◌∷◌, map, length, refl, ap, ◌∙◌, arith}
+use Rattle.std.specs.Int.{from_be_bytes}
+use Rattle.std.specs.List.{list_any}
+use Rattle.std.specs.Simd.{first_chunks}
 use Rattle.questions.specs.Members.{members_of, bad_members}
 
--- the first two and what comes after them
-pub two_split : {Y : Type 0} (F : List ℕ → Y) (xs : List ℕ) → 2 ≤ length xs → F xs ≡ F (get_or xs 0 0 ∷ (get_or xs 1 0 ∷ take (length xs - 2) (drop 2 xs)))
-two_split F [] h = absurd (omega arith)
-two_split F (x ∷ []) h = absurd (omega arith)
-two_split F (x ∷ y ∷ zs) h = ap (λ t. F (x ∷ (y ∷ t))) (sym (take_rest (x ∷ (y ∷ zs)) 2))
+-- two more bytes are one more pair
+one_more : (x y : ℕ) (xs : List ℕ) → length (x ∷ (y ∷ xs)) / 2 ≡ suc (length xs / 2)
+one_more x y xs = omega arith
 
--- fewer than two hold no member
-pub members_none : (xs : List ℕ) → length xs < 2 → members_of xs ≡ []
-members_none [] h = refl
-members_none (x ∷ []) h = refl
-members_none (x ∷ y ∷ zs) h = absurd (omega arith)
+pub members_paired : (xs : List ℕ) → map (from_be_bytes w16) (first_chunks 2 (length xs / 2) xs) ≡ members_of xs
+members_paired [] = refl
+members_paired (x ∷ []) = refl
+members_paired (x ∷ y ∷ xs) =
+    ap (λ k. map (from_be_bytes w16) (first_chunks 2 k (x ∷ (y ∷ xs)))) (one_more x y xs) ∙ ap (λ ms. (x * 256 + y) ∷ ms) (members_paired xs)
 
--- a member that is below the size says nothing of the rest
-pub bad_members_more : (n : ℕ) (xs : List ℕ) → 2 ≤ length xs → get_or xs 0 0 * 256 + get_or xs 1 0 < n → bad_members n (take (length xs - 2) (drop 2 xs)) ≡ bad_members n xs
-bad_members_more n xs h less =
-    sym (two_split (bad_members n) xs h ∙ ap (λ t. t || bad_members n (take (length xs - 2) (drop 2 xs))) (lt-leb n (get_or xs 0 0 * 256 + get_or xs 1 0) less))
+-- with no byte left over, it is a member that is not below the size
+pub even_bad : (n : ℕ) (xs : List ℕ) → length xs % 2 ≡ 0 → list_any (λ p. leb n (from_be_bytes w16 p)) (first_chunks 2 (length xs / 2) xs) ≡ bad_members n xs
+even_bad n [] h = refl
+even_bad n (x ∷ []) h = absurd (omega arith)
+even_bad n (x ∷ y ∷ xs) h =
+    ap (λ k. list_any (λ p. leb n (from_be_bytes w16 p)) (first_chunks 2 k (x ∷ (y ∷ xs)))) (one_more x y xs) ∙ ap (λ b. leb n (x * 256 + y) || b) (even_bad n xs (omega arith))
+
+or_true : (b : Bool) → (b || true) ≡ true
+or_true true = refl
+or_true false = refl
+
+pub odd_bad : (n : ℕ) (xs : List ℕ) → length xs % 2 ≡ 1 → bad_members n xs ≡ true
+odd_bad n [] h = absurd (omega arith)
+odd_bad n (x ∷ []) h = refl
+odd_bad n (x ∷ y ∷ xs) h = ap (λ b. leb n (x * 256 + y) || b) (odd_bad n xs (omega arith)) ∙ or_true (leb n (x * 256 + y))

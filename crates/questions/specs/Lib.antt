@@ -1,3 +1,4 @@
 pub mod Coded
 pub mod Members
 pub mod Holdings
+pub mod Places

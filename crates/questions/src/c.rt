@@ -1,14 +1,12 @@
-// The two questions that a C program asks. An answer is one number, and a refusal a number above all answers.
-ghost use Rattle.std.specs.Prelude.{◌≡◌, ◌<◌, List, [], ◌∷◌, None};
-ghost use Rattle.faults.specs.Checks.{answered};
-ghost use Rattle.circle.specs.Circle.{distance, place};
-ghost use Rattle.circle.specs.Owners.{Member, Owner, least_from, owner};
-ghost use Rattle.arithmetic.specs.Settled.{size_check, copies_check};
-ghost use Rattle.arithmetic.specs.Checks.{identifier_check, replica_check};
+// The two questions that a C program asks. The C interface knows plain numbers alone, so an answer is one number, and
+// a refusal a number above all answers.
+ghost use Rattle.std.specs.Prelude.{◌≡◌, ◌<◌};
+ghost use Rattle.circle.specs.Owners.{Member, Owner, owner};
 ghost use Rattle.questions.specs.Coded.{coded, refusal_base};
 ghost use Rattle.questions.specs.Members.{members_of, bad_members, owner_answer};
+ghost use Rattle.questions.specs.Places.{place_answer};
 
-use arithmetic::{Settings, Way};
+use arithmetic::Settings;
 use faults::Fault;
 
 const REFUSAL_BASE: u64 = 100_000;
@@ -23,41 +21,35 @@ fn code(answer: Result<u16, Fault>) -> u64
 }
 
 fn place_answer(size: u64, copies: u64, item: u64, replica: u64) -> Result<u16, Fault>
-    ensures { result ≡ answered (size_check size ∷ (copies_check size copies ∷ (identifier_check size item ∷ (replica_check copies replica ∷ [])))) (place size copies item replica) }
+    ensures { result ≡ place_answer size copies item replica }
 {
     Settings::new(size, copies)?.place(item, replica)
 }
 
 // The place of an item for a replica, counted from 1.
 pub fn result_ring_place(size: u64, copies: u64, item: u64, replica: u64) -> u64
-    ensures { result ≡ coded (answered (size_check size ∷ (copies_check size copies ∷ (identifier_check size item ∷ (replica_check copies replica ∷ [])))) (place size copies item replica)) }
+    ensures { result ≡ coded (place_answer size copies item replica) }
 {
     code(place_answer(size, copies, item, replica))
 }
 
+// Whether a byte is left over, or a member is not below the size.
 fn bad_members(size: u32, members: &[u8]) -> bool
     ensures { result ≡ bad_members size members.now }
 {
-    let mut rest = members;
-    while let [high, low, more @ ..] = rest {
-        if *high as u32 * 256 + *low as u32 >= size {
-            return true;
-        }
-        rest = more;
-    }
-    !rest.is_empty()
+    let (pairs, left) = members.as_chunks::<2>();
+    let mut pairs = pairs.iter();
+    !left.is_empty() || pairs.any(|pair| u16::from_be_bytes(*pair) as u32 >= size)
 }
 
 fn nearest_member(settings: Settings, place: u16, members: &[u8]) -> Option<u16>
     ensures { result ≡ owner settings.size (members_of members.now) place }
 {
-    let mut best = None;
-    let mut rest = members;
-    while let [high, low, more @ ..] = rest {
-        best = settings.nearer(Way::From(place), best, *high as u16 * 256 + *low as u16);
-        rest = more;
-    }
-    best
+    let (pairs, _) = members.as_chunks::<2>();
+    pairs
+        .iter()
+        .map(|pair| u16::from_be_bytes(*pair))
+        .min_by_key(|member| settings.distance(place, *member))
 }
 
 fn owner_answer(size: u64, identifier: u64, members: &[u8]) -> Result<u16, Fault>

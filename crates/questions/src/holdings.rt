@@ -24,16 +24,11 @@ pub fn where_held(
     ensures { result ≡ holding_of settings.size settings.copies members.now item replica }
 {
     let place = settings.place(item, replica)?;
-    match settings.owner(members, place) {
-        None => Err(Fault::NoMember),
-        Some(owner) => {
-            let share = settings.arc_length(members, owner);
-            Ok(Holding {
-                replica: replica as u8,
-                place,
-                owner,
-                share,
-            })
-        }
-    }
+    let owner = settings.owner(members, place).ok_or(Fault::NoMember)?;
+    Ok(Holding {
+        replica: replica as u8,
+        place,
+        owner,
+        share: settings.arc_length(members, owner),
+    })
 }

@@ -1,19 +1,16 @@
 // The two questions under the names that a C program links with; `questions` answers them.
 #![tactic(auto)]
 
-ghost use Rattle.std.specs.Prelude.{◌≡◌, ◌<◌, [], ◌∷◌};
-ghost use Rattle.faults.specs.Checks.{answered};
-ghost use Rattle.circle.specs.Circle.{place};
+ghost use Rattle.std.specs.Prelude.{◌≡◌, ◌<◌};
 ghost use Rattle.circle.specs.Owners.{Member, Owner};
-ghost use Rattle.arithmetic.specs.Settled.{size_check, copies_check};
-ghost use Rattle.arithmetic.specs.Checks.{identifier_check, replica_check};
 ghost use Rattle.questions.specs.Coded.{coded, refusal_base};
 ghost use Rattle.questions.specs.Members.{members_of, owner_answer};
+ghost use Rattle.questions.specs.Places.{place_answer};
 
 // The place of an item for a replica, counted from 1.
 #[unsafe(no_mangle)]
 pub extern "C" fn result_ring_place(size: u64, copies: u64, item: u64, replica: u64) -> u64
-    ensures { result ≡ coded (answered (size_check size ∷ (copies_check size copies ∷ (identifier_check size item ∷ (replica_check copies replica ∷ [])))) (place size copies item replica)) }
+    ensures { result ≡ coded (place_answer size copies item replica) }
 {
     questions::result_ring_place(size, copies, item, replica)
 }

@@ -1,2 +1,2 @@
-pub mod Finding
 pub mod Changes
+pub mod Finding

@@ -1,47 +1,26 @@
 // Searches over copies in any order.
-ghost use Rattle.std.specs.Prelude.{◌≡◌};
-ghost use Rattle.copies.specs.Copies.{position, nearer_in_range, first_in_range};
+ghost use Rattle.std.specs.Prelude.{◌≡◌, fold, None, reverse};
+ghost use Rattle.std.specs.List.{position};
+ghost use Rattle.copies.specs.Copies.{same, nearer_in_range};
 
 use copies::{Coordinate, CopyRecord};
 
-// The position of the copy at `at`, or the length where there is none.
-pub fn position_of(copies: &[CopyRecord], at: Coordinate) -> usize
-    ensures { result ≡ position copies.now at }
+// The position of the copy at `at`.
+pub fn position_of(copies: &[CopyRecord], at: Coordinate) -> Option<usize>
+    ensures { result ≡ position (λ x. same x.at at) copies.now }
 {
-    for (i, copy) in copies.iter().enumerate() {
-        if copy.at.same(at) {
-            return i;
-        }
-    }
-    copies.len()
-}
-
-// Of a copy and the first of others, the first in range.
-fn nearer(
-    copy: CopyRecord,
-    best: Option<CopyRecord>,
-    peer: u16,
-    low: u16,
-    high: u16,
-) -> Option<CopyRecord>
-    ensures { result ≡ nearer_in_range peer low high copy best }
-{
-    if !copy.in_range(peer, low, high) {
-        return best;
-    }
-    match best {
-        Some(other) if other.at.before(copy.at) => best,
-        _ => Some(copy),
-    }
+    copies.iter().position(|copy| copy.at.same(at))
 }
 
 // The first copy of `peer` with `low` ≤ place ≤ `high`.
 pub fn first_in_range(copies: &[CopyRecord], peer: u16, low: u16, high: u16) -> Option<CopyRecord>
-    ensures { result ≡ first_in_range copies.now peer low high }
+    ensures { result ≡ fold (λ best x. nearer_in_range peer low high x best) None (reverse copies.now) }
 {
-    let mut best = None;
-    for i in (0..copies.len()).rev() {
-        best = nearer(copies[i], best, peer, low, high);
-    }
-    best
+    copies.iter().rev().fold(None, |best, copy| {
+        if copy.in_range(peer, low, high) {
+            copy.nearer(best)
+        } else {
+            best
+        }
+    })
 }

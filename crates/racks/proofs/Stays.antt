@@ -1,93 +1,72 @@
--- What every call on a rack keeps: its size, what lies beyond, and that places not in use hold the blank.
+-- What every call on a rack keeps: where its memory is, its size, what lies beyond, and that places not in use hold the blank.
 use base.Fml.{GName}
-use Rattle.std.proofs.Common.{◌≡◌, ℕ, suc, ◌+◌, ◌-◌, ◌≤◌, Bool, true, false, cond, ltb, List, [], ◌∷◌, ◌++◌, length, drop, replicate, sym, refl, ap, ◌∙◌, subst, arith}
+use Rattle.std.proofs.Common.{◌≡◌, ℕ, ◌+◌, ◌-◌, ◌<◌, false, ltb, List, [], ◌∷◌, ◌++◌, length, drop, replicate, sym, refl, ap, ◌∙◌, subst, arith}
 use Rattle.std.specs.List.{remove}
-use Rattle.std.proofs.lemmas.List.{append-nil, take_all, drop_all, length-drop, length-replicate, length_push, length-set, drop-replicate}
+use Rattle.std.proofs.lemmas.List.{length-drop, length-replicate, length_push, length-set, drop-replicate}
 use Rattle.std.proofs.lemmas.List.Edits.{length-remove}
-use Rattle.std.proofs.lemmas.Bool.{cond_both, leb-false, ltb-true, ltb-false}
-use Rattle.racks.specs.declared.Rack.{Rack}
-use Rattle.racks.specs.Parts.{Parts, joined_up, size_of, full, Clean, added, overwritten, closed_up, emptied}
+use Rattle.std.proofs.lemmas.Bool.{cond-true, cond-false, cond_both, leb-false, lt-ltb, ltb-true}
+use Rattle.racks.specs.Parts.{Parts, Ground, Sound, joined_up, blanks_after, size_of, full, Clean, added, overwritten, closed_up, emptied, ground_of}
 use Rattle.racks.specs.Laws.{Stays}
-use Rattle.racks.specs.Racks.{Ground, parts_of, place_of, ground_of}
+
+ground : {T : Type 0} → GName → ℕ → List T → Ground T
+ground a n b = record { place = a; size = n; beyond = b }
+
+-- the ground stays where the size does, and the rest of it is as it was
+still : {T : Type 0} (p q : Parts T) → q.place ≡ p.place → size_of q ≡ size_of p → q.beyond ≡ p.beyond → ground_of q ≡ ground_of p
+unfolding ground
+still p q a n b =
+    ap (λ t. ground t (size_of q) q.beyond) a ∙ (ap (λ t. ground p.place t q.beyond) n ∙ ap (ground p.place (size_of p)) b)
 
 stays_same : {T : Type 0} (b : T) (p : Parts T) → Stays b p p
-stays_same b p = record { size = refl; beyond = refl; clean = λ h. h }
+stays_same b p = record { ground = refl; clean = λ h. h }
 
-along : {T : Type 0} (b : T) (p q r : Parts T) → q ≡ r → Stays b p r → Stays b p q
-along b p q r e h = subst (λ t. Stays b p t) (sym e) h
-
-pub stays_added : {T : Type 0} (b : T) (p : Parts T) (x : T) (q : Parts T) → q ≡ added p x → Stays b p q
-stays_added {T} b p x q e =
-    let r : Parts T = record { used = p.used ++ x ∷ []; spare = drop 1 p.spare; beyond = p.beyond } in
-    along b p q (added p x) e
-    (cond_both (full p) p r (λ t. Stays b p t)
+pub stays_added : {T : Type 0} (b : T) (p : Parts T) (x : T) → Stays b p (added p x)
+stays_added {T} b p x =
+    let r : Parts T = record { used = p.used ++ x ∷ []; spare = drop 1 p.spare; beyond = p.beyond; place = p.place } in
+    cond_both (full p) p r (λ t. Stays b p t)
     (λ _. stays_same b p)
     (λ f. record {
-      size = let lt = leb-false (size_of p) (length p.used) f in omega (arith, length_push p.used x, length-drop 1 p.spare);
-      beyond = refl;
+      ground = let lt = leb-false (size_of p) (length p.used) f in still p r refl (omega (arith, length_push p.used x, length-drop 1 p.spare)) refl;
       clean = λ h. ap (drop 1) h ∙ (drop-replicate 1 (length p.spare) b ∙ ap (λ n. replicate n b) (sym (length-drop 1 p.spare)));
-    }))
+    })
 
-pub stays_overwritten : {T : Type 0} (b : T) (p : Parts T) (n : ℕ) (x : T) (q : Parts T) → q ≡ overwritten p n x → Stays b p q
-stays_overwritten b p n x q e =
-    along b p q (overwritten p n x) e
-    (record { size = ap (λ k. k + length p.spare) (length-set p.used n x); beyond = refl; clean = λ h. h })
+pub stays_overwritten : {T : Type 0} (b : T) (p : Parts T) (n : ℕ) (x : T) → Stays b p (overwritten p n x)
+stays_overwritten b p n x =
+    record { ground = still p (overwritten p n x) refl (ap (λ k. k + length p.spare) (length-set p.used n x)) refl; clean = λ h. h }
 
-pub stays_closed_up : {T : Type 0} (b : T) (p : Parts T) (n : ℕ) (q : Parts T) → q ≡ closed_up b p n → Stays b p q
-stays_closed_up {T} b p n q e =
-    let r : Parts T = record { used = remove p.used n; spare = b ∷ p.spare; beyond = p.beyond } in
-    along b p q (closed_up b p n) e
-    (cond_both (ltb n (length p.used)) r p (λ t. Stays b p t)
+pub stays_closed_up : {T : Type 0} (b : T) (p : Parts T) (n : ℕ) → Stays b p (closed_up b p n)
+stays_closed_up {T} b p n =
+    let r : Parts T = record { used = remove p.used n; spare = b ∷ p.spare; beyond = p.beyond; place = p.place } in
+    cond_both (ltb n (length p.used)) r p (λ t. Stays b p t)
     (λ f. record {
-      size = omega (arith, length-remove p.used n (ltb-true n (length p.used) f));
-      beyond = refl;
+      ground = still p r refl (omega (arith, length-remove p.used n (ltb-true n (length p.used) f))) refl;
       clean = λ h. ap (λ t. b ∷ t) h;
     })
-    (λ _. stays_same b p))
+    (λ _. stays_same b p)
 
 pub clean_emptied : {T : Type 0} (b : T) (p : Parts T) → Clean b (emptied b p)
 clean_emptied b p = ap (λ n. replicate n b) (sym (length-replicate (size_of p) b))
 
-pub stays_emptied : {T : Type 0} (b : T) (p q : Parts T) → q ≡ emptied b p → Stays b p q
-stays_emptied b p q e =
-    along b p q (emptied b p) e
-    (record {
-      size = omega (arith, length-replicate (size_of p) b);
-      beyond = refl;
-      clean = λ _. clean_emptied b p;
-    })
+pub stays_emptied : {T : Type 0} (b : T) (p : Parts T) → Stays b p (emptied b p)
+stays_emptied b p =
+    record { ground = still p (emptied b p) refl (omega (arith, length-replicate (size_of p) b)) refl; clean = λ _. clean_emptied b p }
 
 -- the whole memory: the records in use, blanks up to the size, and what lies beyond
-pub memory_clean : {T : Type 0} (b : T) (p : Parts T) → Clean b p → joined_up p ≡ p.used ++ (replicate (size_of p - length p.used) b ++ p.beyond)
+pub memory_clean : {T : Type 0} (b : T) (p : Parts T) → Clean b p → joined_up p ≡ blanks_after b p
 memory_clean b p h =
     let n : length p.spare ≡ size_of p - length p.used = omega arith in
     ap (λ t. p.used ++ (t ++ p.beyond)) (h ∙ ap (λ k. replicate k b) n)
 
--- the ground stays where its two parts do
-ground : {T : Type 0} → GName → List T → Ground T
-ground a b = record { place = a; beyond = b }
-
-pub ground_stays : {T : Type 0} (r s : Rack T) → place_of s ≡ place_of r → (parts_of s).beyond ≡ (parts_of r).beyond → ground_of s ≡ ground_of r
-unfolding ground
-ground_stays r s a b = ap (λ t. ground t (parts_of s).beyond) a ∙ ap (λ t. ground (place_of r) t) b
-
--- what a struct over a rack may state of it, after a call
-pub still : {T : Type 0} (b : T) (p q : Parts T) (most : ℕ) → Stays b p q → Clean b p → size_of p ≤ most → Clean b q × (size_of q ≤ most)
-still b p q most s c h = (s.clean c, omega (arith, s.size))
+-- what was true of a rack is true after a call that keeps it
+pub sound_after : {T : Type 0} (b : T) (most count n : ℕ) (p q r : Parts T) → Sound b most count p → Stays b p r → q ≡ r → length r.used ≡ n → Sound b most n q
+sound_after b most count n p q r s k e l =
+    subst (Sound b most n) (sym e) (record { counted = l; bounded = omega (arith, s.bounded, ap (λ t. t.size) k.ground); clean = k.clean s.clean })
 
 -- ---- the records in use
 
-pub used_added : {T : Type 0} (p : Parts T) (x : T) → (added p x).used ≡ cond (full p) p.used (p.used ++ x ∷ [])
-used_added {T} p x =
-    let r : Parts T = record { used = p.used ++ x ∷ []; spare = drop 1 p.spare; beyond = p.beyond } in
-    let either : (t : Bool) → (cond t p r).used ≡ cond t p.used (p.used ++ x ∷ []) = λ t. elim t as (λ v. (cond v p r).used ≡ cond v p.used (p.used ++ x ∷ [])) [ true ↦ refl | false ↦ refl ] in
-    either (full p)
+pub length_added : {T : Type 0} (p : Parts T) (x : T) → full p ≡ false → length (added p x).used ≡ length p.used + 1
+length_added p x f = ap (λ t. length t.used) (cond-false (full p) p _ f) ∙ length_push p.used x
 
-removed_past : {T : Type 0} (xs : List T) (n : ℕ) → length xs ≤ n → remove xs n ≡ xs
-removed_past xs n h =
-    ap (λ t. t ++ drop (suc n) xs) (take_all n xs h) ∙ (ap (λ t. xs ++ t) (drop_all (suc n) xs (omega arith)) ∙ append-nil xs)
-
-pub used_closed_up : {T : Type 0} (b : T) (p : Parts T) (n : ℕ) → (closed_up b p n).used ≡ remove p.used n
-used_closed_up {T} b p n =
-    let r : Parts T = record { used = remove p.used n; spare = b ∷ p.spare; beyond = p.beyond } in
-    cond_both (ltb n (length p.used)) r p (λ t. t.used ≡ remove p.used n) (λ _. refl) (λ f. sym (removed_past p.used n (ltb-false n (length p.used) f)))
+pub length_closed_up : {T : Type 0} (b : T) (p : Parts T) (n : ℕ) → n < length p.used → length (closed_up b p n).used ≡ length p.used - 1
+length_closed_up b p n h =
+    ap (λ t. length t.used) (cond-true (ltb n (length p.used)) _ p (lt-ltb n (length p.used) h)) ∙ omega (arith, length-remove p.used n h)

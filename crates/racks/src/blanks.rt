@@ -2,10 +2,10 @@
 ghost use Rattle.std.specs.Prelude.{◌≡◌};
 ghost use Rattle.racks.specs.Blanks.{blank_copy, blank_message};
 
-use copies::{Coordinate, CopyRecord, Entry};
+use copies::CopyRecord;
 use messages::Message;
 
-// A kind of record that has a blank.
+// A kind of record that has a blank: not its `Default`, which does not say in generic code which value it is, and a message has none.
 pub trait Blank {
     ghost nothing: { Self };
 
@@ -17,14 +17,7 @@ impl Blank for CopyRecord {
     ghost nothing = { blank_copy };
 
     fn blank() -> CopyRecord {
-        CopyRecord {
-            at: Coordinate {
-                peer: 0,
-                replica: 0,
-                place: 0,
-            },
-            held: Entry { stamp: 0, value: 0 },
-        }
+        CopyRecord::default()
     }
 }
 

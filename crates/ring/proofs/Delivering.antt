@@ -1,19 +1,14 @@
 -- What a position of the post tells of its delivery. Assumes nothing.
-use Rattle.std.proofs.Common.{◌≡◌, ℕ, zero, suc, ◌+◌, ◌-◌, ◌<◌, ◌≤◌, Bool, true, false, cond, leb, List, [], ◌∷◌, length, Some, None, Option, sym, refl, ap, ◌∙◌, arith}
+use Rattle.std.proofs.Common.{◌≡◌, ℕ, zero, suc, ◌+◌, ◌-◌, ◌<◌, ◌≤◌, Bool, true, false, cond, leb, List, [], ◌∷◌, length, Some, None, Option, refl, ap, ◌∙◌, arith}
 use Rattle.std.specs.List.{slice_get, remove}
-use Rattle.std.proofs.lemmas.Bool.{le-leb, lt-leb, eq-eqb, cond-true}
+use Rattle.std.proofs.lemmas.Bool.{le-leb, lt-leb}
 use Rattle.faults.specs.declared.Fault.{Fault}
 use Rattle.faults.specs.declared.Fault.TheVariants.{ShelfFull, NoMessage}
 use Rattle.faults.specs.Checks.{first_fault}
-use Rattle.copies.specs.declared.Edit.TheVariants.{Put}
-use Rattle.copies.specs.Copies.{find}
 use Rattle.messages.specs.declared.Message.{Message}
 use Rattle.messages.specs.declared.Message.TheVariants.{RetrieveItems, Replicate, AddItem, GetItem}
-use Rattle.rules.specs.declared.PeerState.{PeerState}
-use Rattle.rules.specs.State.{Settings, State, addressee, state_of, owner_else, with_post}
-use Rattle.rules.specs.Handover.{spot, entry, newer}
-use Rattle.rules.specs.Refusals.{owns, cramped, deliver_checks}
-use Rattle.rules.specs.Rules.{Did, adding, answering, delivered}
+use Rattle.rules.specs.State.{Settings, State, with_post}
+use Rattle.rules.specs.Refusals.{cramped, deliver_checks}
 use Rattle.rules.specs.Edits.{delivery_edits}
 use Rattle.holders.specs.Holders.{no_place}
 
@@ -67,33 +62,9 @@ module _ (set : Settings) (s : State) (n : ℕ) where
 abbrev pub slotted : Settings → ℕ → Settings
 slotted set slots = record { size = set.size; copies = set.copies; cells = set.cells; slots = slots }
 
--- ---- a message that reaches the owner of its place
+-- ---- neither the post nor its size tells what a message needs of the shelf, or what it edits
 
 module _ (set : Settings) (s : State) where
-  -- what the message m does, by the state of its addressee
-  abbrev pub received : Message → Did
-  received m = delivered set s (state_of s.table (addressee m)) m
-
-  owns_it : (i to owner : ℕ) → owner ≡ owner_else set s.table i to → owner ≡ to → owns set s i to ≡ true
-  owns_it i to owner is same = eq-eqb (owner_else set s.table i to) to (sym is ∙ same)
-
-  pub add_received : (m : Message) (to r i stamp v owner : ℕ) → m ≡ AddItem to r i stamp v → owner ≡ owner_else set s.table i to → owner ≡ to → adding s to r i stamp v ≡ received m
-  add_received m to r i stamp v owner is own same =
-      sym (ap received is ∙ cond-true (owns set s i to) _ _ (owns_it i to owner own same))
-
-  pub add_edits : (m : Message) (to r i stamp v owner : ℕ) → m ≡ AddItem to r i stamp v → owner ≡ owner_else set s.table i to → owner ≡ to → cond (newer (find s.shelf (spot to r i)) stamp) [] (Put (spot to r i) (entry stamp v) ∷ []) ≡ delivery_edits set s (Some m)
-  add_edits m to r i stamp v owner is own same =
-      sym (ap (λ (x : Message). delivery_edits set s (Some x)) is ∙ cond-true (owns set s i to) _ _ (owns_it i to owner own same))
-
-  pub get_received : (m : Message) (to r i q owner : ℕ) (st : Option PeerState) → m ≡ GetItem to r i q → owner ≡ owner_else set s.table i to → owner ≡ to → st ≡ state_of s.table (addressee m) → answering set s st to r i q ≡ received m
-  get_received m to r i q owner st is own same state =
-      ap (λ x. answering set s x to r i q) (state ∙ ap (λ (x : Message). state_of s.table (addressee x)) is)
-      ∙ sym (ap received is ∙ cond-true (owns set s i to) _ _ (owns_it i to owner own same))
-
-  pub get_edits : (m : Message) (to r i q : ℕ) → m ≡ GetItem to r i q → [] ≡ delivery_edits set s (Some m)
-  get_edits m to r i q is = sym (ap (λ (x : Message). delivery_edits set s (Some x)) is)
-
-  -- neither the post nor its size tells what a message needs of the shelf, or what it edits
   pub cramped_taken : (slots : ℕ) (post : List Message) (m : Message) → cramped (slotted set slots) (with_post post s) (Some m) ≡ cramped set s (Some m)
   cramped_taken slots post (RetrieveItems to from start end) = refl
   cramped_taken slots post (Replicate to from start end) = refl

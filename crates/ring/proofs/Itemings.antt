@@ -1,6 +1,6 @@
 -- What it tells that an insert or a lookup is accepted. Assumes nothing.
-use Rattle.std.proofs.Common.{◌≡◌, ℕ, ◌+◌, ◌<◌, ◌≤◌, false, ltb, leb, length, None, arith}
-use Rattle.std.proofs.lemmas.Bool.{leb-false, ltb-false, or_parts}
+use Rattle.std.proofs.Common.{◌≡◌, ℕ, ◌+◌, ◌≤◌, false, leb, length, None, arith}
+use Rattle.std.proofs.lemmas.Bool.{ltb-false}
 use Rattle.faults.specs.Checks.{first_fault}
 use Rattle.rules.specs.State.{Settings, State}
 use Rattle.rules.specs.Refusals.{most_open, most_numbers, free_places, insert_checks, lookup_checks}
@@ -10,7 +10,6 @@ use Rattle.ring.proofs.Memberships.{has_place}
 
 module _ (set : Settings) (s : State) (k : ℕ) where
   pub record Inserts : Type 0 where
-    pub below : k < set.size
     pub unspent : s.stamp ≤ most_numbers
     pub enough : length s.post + set.copies ≤ set.slots
 
@@ -19,11 +18,9 @@ module _ (set : Settings) (s : State) (k : ℕ) where
   insert_accepted some h =
       let a = all_passed (insert_checks set s k) h in
       let places = ltb-false (free_places set s) set.copies a.1.1.1.1.0 in
-      record { below = leb-false set.size k a.0; unspent = ltb-false most_numbers s.stamp a.1.1.0; enough = omega arith }
+      record { unspent = ltb-false most_numbers s.stamp a.1.1.0; enough = omega arith }
 
   pub record Lookups (r : ℕ) : Type 0 where
-    pub below : k < set.size
-    pub is_in_range : r ≤ set.copies
     pub unspent : s.number ≤ most_numbers
     pub more_open : leb most_open (length s.questions) ≡ false
     pub place : no_place s.post set.slots ≡ false
@@ -32,10 +29,7 @@ module _ (set : Settings) (s : State) (k : ℕ) where
   unfolding lookup_checks
   lookup_accepted r h =
       let a = all_passed (lookup_checks set s k r) h in
-      let e = or_parts (ltb r 1) (ltb set.copies r) a.1.0 in
       record {
-        below = leb-false set.size k a.0;
-        is_in_range = ltb-false set.copies r e.1;
         unspent = ltb-false most_numbers s.number a.1.1.1.0;
         more_open = a.1.1.1.1.0;
         place = has_place set.slots (length s.post) 1 (omega arith) a.1.1.1.1.1.0;

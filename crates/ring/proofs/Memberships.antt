@@ -1,6 +1,6 @@
 -- What an accepted join or leave makes of the table and the post. Assumes nothing.
-use Rattle.std.proofs.Common.{◌≡◌, ℕ, suc, ◌-◌, ◌<◌, ◌≤◌, false, ◌&&◌, ltb, leb, List, [], ◌∷◌, length, is_some, Some, None, Option, sym, refl, ap, ◌∙◌, arith}
-use Rattle.std.proofs.lemmas.Bool.{leb-false, ltb-false, lt-leb}
+use Rattle.std.proofs.Common.{◌≡◌, ℕ, suc, ◌-◌, ◌≤◌, false, ◌&&◌, ltb, leb, List, [], ◌∷◌, length, is_some, Some, None, Option, sym, refl, ap, ◌∙◌, arith}
+use Rattle.std.proofs.lemmas.Bool.{ltb-false, lt-leb}
 use Rattle.faults.specs.Checks.{first_fault}
 use Rattle.rules.specs.declared.Peer.{Peer}
 use Rattle.rules.specs.declared.PeerState.{PeerState}
@@ -24,11 +24,6 @@ both_none None c e p s = refl
 both_none (Some a) None e p s = refl
 both_none (Some a) (Some c) e p s = absurd (let z : ◌≡◌ {A = ℕ} 0 1 = cc in omega arith)
 
-both_none_gone : (a c : Option ℕ) → None ≡ both a c → (p : ℕ) (s : State) → gone p s a c ≡ s
-both_none_gone None c e p s = refl
-both_none_gone (Some a) None e p s = refl
-both_none_gone (Some a) (Some c) e p s = absurd (let z : ◌≡◌ {A = ℕ} 0 1 = cc in omega arith)
-
 pub both_some : (o q : Option ℕ) (a c : ℕ) → Some (a, c) ≡ both o q → (o ≡ Some a) × (q ≡ Some c)
 both_some None q a c e = absurd (let z : ◌≡◌ {A = ℕ} 0 1 = cc in omega arith)
 both_some (Some x) None a c e = absurd (let z : ◌≡◌ {A = ℕ} 0 1 = cc in omega arith)
@@ -44,17 +39,10 @@ module _ (set : Settings) (s : State) (p : ℕ) where
   pub join_between : (a c : ℕ) → Some (a, c) ≡ both (predecessor set.size (members s.table) p) (successor set.size (members s.table) p) → joined_to set s p ≡ joined p s (Some a) (Some c)
   join_between a c e = let is = both_some (predecessor set.size (members s.table) p) (successor set.size (members s.table) p) a c e in (λ j. joined p s (is.0 j) (is.1 j))
 
-  pub leave_alone : None ≡ both (predecessor set.size (members s.table) p) (successor set.size (members s.table) p) → gone_from set s p ≡ s
-  leave_alone e = both_none_gone (predecessor set.size (members s.table) p) (successor set.size (members s.table) p) e p s
-
   pub leave_between : (a c : ℕ) → Some (a, c) ≡ both (predecessor set.size (members s.table) p) (successor set.size (members s.table) p) → gone_from set s p ≡ gone p s (Some a) (Some c)
   leave_between a c e = let is = both_some (predecessor set.size (members s.table) p) (successor set.size (members s.table) p) a c e in (λ j. gone p s (is.0 j) (is.1 j))
 
   -- ---- what acceptance tells
-
-  pub join_below : first_fault (join_checks set s p) ≡ None → p < set.size
-  unfolding join_checks
-  join_below h = leb-false set.size p (all_passed (join_checks set s p) h).0
 
   -- the table has room
   pub join_room : first_fault (join_checks set s p) ≡ None → leb most_peers (length s.table) ≡ false
@@ -67,10 +55,6 @@ module _ (set : Settings) (s : State) (p : ℕ) where
   join_place h c is =
       let last = (all_passed (join_checks set s p) h).1.1.1.1.0 in
       has_place set.slots (length s.post) 1 (omega arith) (ap (λ (o : Option ℕ). is_some o && ltb (free_places set s) 1) (sym is) ∙ last)
-
-  pub leave_below : first_fault (leave_checks set s p) ≡ None → p < set.size
-  unfolding leave_checks
-  leave_below h = leb-false set.size p (all_passed (leave_checks set s p) h).0
 
   pub leave_place : first_fault (leave_checks set s p) ≡ None → no_place s.post set.slots ≡ false
   unfolding leave_checks

@@ -4,7 +4,6 @@ use Rattle.std.specs.List.{slice_get}
 use Rattle.faults.specs.declared.Fault.{Fault}
 use Rattle.faults.specs.Checks.{first_fault}
 use Rattle.rules.specs.Refusals.{deliver_checks}
-use Rattle.copies.specs.declared.CopyRecord.{CopyRecord}
 use Rattle.copies.specs.declared.Edit.{Edit}
 use Rattle.messages.specs.declared.Message.{Message}
 use Rattle.arithmetic.specs.declared.settings.Settings.{Settings as Code}
@@ -15,18 +14,10 @@ use Rattle.rules.specs.State.{Settings, State, members}
 use Rattle.rules.specs.Rules.{Did, step, joined, gone}
 use Rattle.rules.specs.Edits.{call_edits}
 use Rattle.tables.specs.Tables.{peers_of, questions_of}
+use Rattle.holders.specs.declared.holder.Holder.{Ghosts as Holding}
+use Rattle.holders.specs.declared.shelf.Shelf.{Ghosts as Shelving}
+use Rattle.holders.specs.declared.post.Post.{Ghosts as Posting}
 use Rattle.ring.specs.declared.ring.Ring.{Ring}
-
--- the shelf's size and its meaning, the post's size and its meaning
-abbrev pub viewed : {S P : Type 0} → (S → List CopyRecord) → (P → List Message) → Ring S P → State
-viewed meaning waiting r = record {
-  table = peers_of r.table;
-  shelf = meaning r.shelf.now;
-  post = waiting r.post.now;
-  stamp = r.stamp;
-  number = r.number;
-  questions = questions_of r.questions;
-}
 
 -- settings with the sizes of a shelf and a post
 abbrev pub settled : Code → ℕ → ℕ → Settings
@@ -36,34 +27,43 @@ settled s cells slots = record { size = s.size; copies = s.copies; cells = cells
 abbrev pub sized : Code → Settings
 sized s = record { size = s.size; copies = s.copies; cells = 0; slots = 0 }
 
-abbrev pub sizes : {S P : Type 0} → (S → ℕ) → (P → ℕ) → Ring S P → Settings
-sizes cells slots r = record {
-  size = r.settings.size;
-  copies = r.settings.copies;
-  cells = cells r.shelf.now;
-  slots = slots r.post.now;
-}
+-- Of a ring over any shelf and any post, whose members are known by the ring's type.
+module _ {S P : Type 0} {shelf : Shelving S} {cells : Holding S} {post : Posting P Message} {slots : Holding P} where
+  -- its state: its table, its counters and its questions, and what its shelf and its post mean
+  abbrev pub viewed : Ring S P shelf cells post slots → State
+  viewed r = record {
+    table = peers_of r.table;
+    shelf = shelf.meaning r.shelf.now;
+    post = post.waiting r.post.now;
+    stamp = r.stamp;
+    number = r.number;
+    questions = questions_of r.questions;
+  }
 
--- the ring after something was done to it: its state is `target`, the shelf's memory has had these edits in order, and nothing else
--- of what the ring was lent has changed
-pub record Leads {S P M F G : Type 0} (meaning : S → List CopyRecord) (cells : S → ℕ) (memory : S → M) (edited : M → Edit → M) (frame : S → F) (waiting : P → List Message) (slots : P → ℕ) (backing : P → G) (target : State) (edits : List Edit) (before after : Ring S P) : Type 0 where
-  pub became : viewed meaning waiting after ≡ target
-  pub remembers : memory after.shelf.now ≡ fold edited (memory before.shelf.now) edits
-  pub same_sizes : sizes cells slots after ≡ sizes cells slots before
-  pub framed : frame after.shelf.now ≡ frame before.shelf.now
-  pub backed : backing after.post.now ≡ backing before.post.now
-  pub shelf_lent : after.shelf.ghost_name ≡ before.shelf.ghost_name
-  pub post_lent : after.post.ghost_name ≡ before.post.ghost_name
+  -- its settings, with the sizes of its shelf and its post
+  abbrev pub sizes : Ring S P shelf cells post slots → Settings
+  sizes r = settled r.settings (cells.room r.shelf.now) (slots.room r.post.now)
 
--- a call: its answer and the ring after it are the rules', and so are its edits of the shelf
-pub record Performs {S P M F G : Type 0} (meaning : S → List CopyRecord) (cells : S → ℕ) (memory : S → M) (edited : M → Edit → M) (frame : S → F) (waiting : P → List Message) (slots : P → ℕ) (backing : P → G) (call : Call) (before : Ring S P) (answer : Answer) (after : Ring S P) : Type 0 where
-  pub answered : answer ≡ (step (sizes cells slots before) (viewed meaning waiting before) call).answer
-  pub leads : Leads meaning cells memory edited frame waiting slots backing (step (sizes cells slots before) (viewed meaning waiting before) call).after (call_edits (sizes cells slots before) (viewed meaning waiting before) call) before after
+  -- the ring after something was done to it: its state is `target`, the shelf's memory has had these edits in order, and nothing else
+  -- of what the ring was lent has changed
+  pub record Leads (target : State) (edits : List Edit) (before after : Ring S P shelf cells post slots) : Type 0 where
+    pub became : viewed after ≡ target
+    pub remembers : shelf.cells after.shelf.now ≡ fold shelf.after (shelf.cells before.shelf.now) edits
+    pub same_sizes : sizes after ≡ sizes before
+    pub framed : cells.frame after.shelf.now ≡ cells.frame before.shelf.now
+    pub backed : slots.frame after.post.now ≡ slots.frame before.post.now
+    pub shelf_lent : after.shelf.ghost_name ≡ before.shelf.ghost_name
+    pub post_lent : after.post.ghost_name ≡ before.post.ghost_name
 
--- something that is done with an answer, as the rules say it
-pub record Acts {S P M F G : Type 0} (meaning : S → List CopyRecord) (cells : S → ℕ) (memory : S → M) (edited : M → Edit → M) (frame : S → F) (waiting : P → List Message) (slots : P → ℕ) (backing : P → G) (rule : Did) (edits : List Edit) (before : Ring S P) (answer : Answer) (after : Ring S P) : Type 0 where
-  pub answered : answer ≡ rule.answer
-  pub leads : Leads meaning cells memory edited frame waiting slots backing rule.after edits before after
+  -- a call: its answer and the ring after it are the rules', and so are its edits of the shelf
+  pub record Performs (call : Call) (before : Ring S P shelf cells post slots) (answer : Answer) (after : Ring S P shelf cells post slots) : Type 0 where
+    pub answered : answer ≡ (step (sizes before) (viewed before) call).answer
+    pub leads : Leads (step (sizes before) (viewed before) call).after (call_edits (sizes before) (viewed before) call) before after
+
+  -- something that is done with an answer, as the rules say it
+  pub record Acts (rule : Did) (edits : List Edit) (before : Ring S P shelf cells post slots) (answer : Answer) (after : Ring S P shelf cells post slots) : Type 0 where
+    pub answered : answer ≡ rule.answer
+    pub leads : Leads rule.after edits before after
 
 -- two that are both there
 abbrev pub both : Option ℕ → Option ℕ → Option (ℕ × ℕ)

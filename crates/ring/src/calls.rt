@@ -8,7 +8,7 @@ use rules::{Answer, Call};
 
 impl<'a, S: Shelf, P: Post<Message>> Ring<'a, S, P> {
     pub fn perform(&mut self, call: Call) -> Answer
-        ensures { Performs S.Shelf.meaning S.Holder.room S.Shelf.cells S.Shelf.after S.Holder.frame P.Post.waiting P.Holder.room P.Holder.frame call self.old result self.new }
+        ensures { Performs call self.old result self.new }
     {
         match call {
             Call::Join(peer) => self.join(peer),

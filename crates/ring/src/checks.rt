@@ -1,6 +1,7 @@
 // What several calls check.
-ghost use Rattle.std.specs.Prelude.{◌≡◌, if◌then◌else◌, Some, None, nat_lt};
+ghost use Rattle.std.specs.Prelude.{◌≡◌, [], ◌∷◌, nat_lt};
 ghost use Rattle.faults.specs.declared.Fault.TheVariants.{PostFull};
+ghost use Rattle.faults.specs.Checks.{answered};
 ghost use Rattle.rules.specs.State.{is_settled, state_of};
 ghost use Rattle.rules.specs.Refusals.{free_places, is_member};
 ghost use Rattle.tables.specs.Tables.{peers_of};
@@ -16,37 +17,25 @@ impl<'a, S: Shelf, P: Post<Message>> Ring<'a, S, P> {
     pub(crate) fn is_settled(&self, id: u16) -> bool
         ensures { result ≡ is_settled (state_of (peers_of self.now.table) id) }
     {
-        match self.table.state_of(id) {
-            None => false,
-            Some(PeerState::Settled) => true,
-            Some(PeerState::Filling { .. }) => false,
-            Some(PeerState::Giving) => false,
-            Some(PeerState::Leaving) => false,
-        }
+        matches!(self.table.state_of(id), Some(PeerState::Settled))
     }
 
     // Whether a peer is on the table and not leaving.
     pub(crate) fn is_member(&self, id: u16) -> bool
         ensures { result ≡ is_member (state_of (peers_of self.now.table) id) }
     {
-        match self.table.state_of(id) {
-            None => false,
-            Some(PeerState::Settled) => true,
-            Some(PeerState::Filling { .. }) => true,
-            Some(PeerState::Giving) => true,
-            Some(PeerState::Leaving) => false,
-        }
+        !matches!(self.table.state_of(id), None | Some(PeerState::Leaving))
     }
 
-    // The fault of a post that has no places for so many messages more.
-    pub(crate) fn post_fault(&self, more: usize) -> Option<Fault>
-        ensures { result ≡ (if nat_lt (free_places (sizes S.Holder.room P.Holder.room self.now) (viewed S.Shelf.meaning P.Post.waiting self.now)) more then Some (PostFull (free_places (sizes S.Holder.room P.Holder.room self.now) (viewed S.Shelf.meaning P.Post.waiting self.now))) else None) }
+    // Refuses where the post has no places for so many messages more.
+    pub(crate) fn check_post(&self, more: usize) -> Result<(), Fault>
+        ensures { result ≡ answered ((nat_lt (free_places (sizes self.now) (viewed self.now)) more, PostFull (free_places (sizes self.now) (viewed self.now))) ∷ []) tt }
     {
         let post = &*self.post;
-        let _ = post.count();
         if has_room_for(post, more) {
-            return None;
+            Ok(())
+        } else {
+            Err(Fault::PostFull(room_left(post) as u64))
         }
-        Some(Fault::PostFull(room_left(post) as u64))
     }
 }

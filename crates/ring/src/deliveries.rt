@@ -4,6 +4,8 @@ ghost use Rattle.faults.specs.Checks.{first_fault};
 ghost use Rattle.copies.specs.declared.Edit.TheVariants.{Put};
 ghost use Rattle.copies.specs.Copies.{find as found, put as with_copy};
 ghost use Rattle.holders.specs.Holders.{no_cell, no_place};
+ghost use Rattle.holders.specs.Shelves.{Edited};
+ghost use Rattle.messages.specs.declared.Message.TheVariants.{AddItem, GetItem};
 ghost use Rattle.rules.specs.declared.Call.TheVariants.{Deliver};
 ghost use Rattle.rules.specs.State.{addressee as addressed, state_of, owner_else, sending};
 ghost use Rattle.rules.specs.Handover.{spot, entry as entered, newer};
@@ -28,10 +30,10 @@ fn addressee(message: Message) -> u16
     ensures { result ≡ addressed message }
 {
     match message {
-        Message::RetrieveItems { to, .. } => to,
-        Message::Replicate { to, .. } => to,
-        Message::AddItem { to, .. } => to,
-        Message::GetItem { to, .. } => to,
+        Message::RetrieveItems { to, .. }
+        | Message::Replicate { to, .. }
+        | Message::AddItem { to, .. }
+        | Message::GetItem { to, .. } => to,
     }
 }
 
@@ -41,10 +43,7 @@ fn still_to_come(settings: Settings, state: Option<PeerState>, place: u16) -> bo
 {
     match state {
         Some(PeerState::Filling { start, end, .. }) => settings.in_arc(start, end, place),
-        None => false,
-        Some(PeerState::Settled) => false,
-        Some(PeerState::Giving) => false,
-        Some(PeerState::Leaving) => false,
+        _ => false,
     }
 }
 
@@ -54,10 +53,7 @@ fn show(there: Option<Entry>) -> Reply
 {
     match there {
         None => Reply::Absent,
-        Some(entry) => Reply::Held {
-            stamp: entry.stamp,
-            value: entry.value,
-        },
+        Some(Entry { stamp, value }) => Reply::Held { stamp, value },
     }
 }
 
@@ -68,120 +64,88 @@ fn release(table: &mut Table, giver: u16)
     match table.state_of(giver) {
         Some(PeerState::Giving) => table.set_state(giver, PeerState::Settled),
         Some(PeerState::Leaving) => table.remove(giver),
-        None => {}
-        Some(PeerState::Settled) => {}
-        Some(PeerState::Filling { .. }) => {}
+        _ => {}
     }
 }
 
 // Puts a copy where there is a cell for it.
 fn store<S: Shelf>(shelf: &mut S, at: Coordinate, entry: Entry)
     requires { no_cell (S.Shelf.meaning shelf.old) (S.Holder.room shelf.old) at ≡ false }
-    ensures after { S.Shelf.meaning shelf.new ≡ with_copy (S.Shelf.meaning shelf.old) at entry }
-    ensures cells { S.Shelf.cells shelf.new ≡ S.Shelf.after (S.Shelf.cells shelf.old) (Put at entry) }
-    ensures size { S.Holder.room shelf.new ≡ S.Holder.room shelf.old }
-    ensures same { S.Holder.frame shelf.new ≡ S.Holder.frame shelf.old }
+    ensures { Edited S.Shelf.own S.Holder (with_copy (S.Shelf.meaning shelf.old) at entry) (Put at entry ∷ []) shelf.old shelf.new }
 {
     let _ = shelf.put(at, entry);
 }
 
 impl<'a, S: Shelf, P: Post<Message>> Ring<'a, S, P> {
     // The owner of a place; the addressee where there is no member.
-    fn owner_or(&self, place: u16, to: u16) -> u16
-        ensures { result ≡ owner_else (sizes S.Holder.room P.Holder.room self.now) (peers_of self.now.table) place to }
+    pub(crate) fn owner_or(&self, place: u16, to: u16) -> u16
+        ensures { result ≡ owner_else (sizes self.now) (peers_of self.now.table) place to }
     {
         self.table.owner(self.settings, place).unwrap_or(to)
     }
 
     // Whether a copy would need a cell at its owner, and there is none.
     fn is_cramped(&self, message: Message) -> bool
-        ensures { result ≡ cramped (sizes S.Holder.room P.Holder.room self.now) (viewed S.Shelf.meaning P.Post.waiting self.now) (Some message) }
+        ensures { result ≡ cramped (sizes self.now) (viewed self.now) (Some message) }
     {
-        match message {
-            Message::AddItem {
-                to,
-                replica,
-                place,
-                ..
-            } => {
-                let shelf = &*self.shelf;
-                let at = Coordinate {
-                    peer: to,
-                    replica,
-                    place,
-                };
-                let owned = self.owner_or(place, to) == to;
-                let absent = shelf.find(at).is_none();
-                owned && absent && room_left(shelf) == 0
-            }
-            Message::RetrieveItems { .. } => false,
-            Message::Replicate { .. } => false,
-            Message::GetItem { .. } => false,
-        }
+        let Message::AddItem {
+            to: peer,
+            replica,
+            place,
+            ..
+        } = message
+        else {
+            return false;
+        };
+        let at = Coordinate {
+            peer,
+            replica,
+            place,
+        };
+        let owned = self.owner_or(place, peer) == peer;
+        owned && self.shelf.find(at).is_none() && room_left(&*self.shelf) == 0
     }
 
     // The message at a position, or why its delivery is refused.
     fn message_at(&self, n: u64) -> Result<Message, Fault>
-        ensures value { MessageAt (sizes S.Holder.room P.Holder.room self.now) (viewed S.Shelf.meaning P.Post.waiting self.now) n result }
-        ensures kept { P.Holder.held self.now.post.now ≡ length (P.Post.waiting self.now.post.now) }
+        ensures { MessageAt (sizes self.now) (viewed self.now) n result }
     {
-        let post = &*self.post;
-        match post.look(n as usize) {
-            None => Err(Fault::NoMessage),
-            Some(message) => {
-                if self.is_cramped(message) {
-                    let shelf = &*self.shelf;
-                    return Err(Fault::ShelfFull(shelf.size().saturating_sub(shelf.count()) as u64));
-                }
-                Ok(message)
-            }
+        let Some(message) = self.post.look(n as usize) else {
+            return Err(Fault::NoMessage);
+        };
+        if self.is_cramped(message) {
+            return Err(Fault::ShelfFull(room_left(&*self.shelf) as u64));
         }
+        Ok(message)
     }
 
     // Puts a message in the post and answers.
     fn send(&mut self, message: Message, answer: Answer) -> Answer
         requires { no_place (P.Post.waiting self.old.post.now) (P.Holder.room self.old.post.now) ≡ false }
-        ensures { Acts S.Shelf.meaning S.Holder.room S.Shelf.cells S.Shelf.after S.Holder.frame P.Post.waiting P.Holder.room P.Holder.frame (did answer (sending message (viewed S.Shelf.meaning P.Post.waiting self.old))) [] self.old result self.new }
+        ensures { Acts (did answer (sending message (viewed self.old))) [] self.old result self.new }
     {
         let _ = self.post.put(message);
         answer
     }
 
     // A copy is put unless the one there is newer.
-    fn keep(&mut self, to: u16, replica: u8, place: u16, stamp: u32, value: u64) -> Answer
-        requires { no_cell (S.Shelf.meaning self.old.shelf.now) (S.Holder.room self.old.shelf.now) (spot to replica place) ≡ false }
-        ensures { Acts S.Shelf.meaning S.Holder.room S.Shelf.cells S.Shelf.after S.Holder.frame P.Post.waiting P.Holder.room P.Holder.frame (adding (viewed S.Shelf.meaning P.Post.waiting self.old) to replica place stamp value) (if newer (found (S.Shelf.meaning self.old.shelf.now) (spot to replica place)) stamp then [] else Put (spot to replica place) (entered stamp value) ∷ []) self.old result self.new }
+    fn keep(&mut self, at: Coordinate, entry: Entry) -> Answer
+        requires { no_cell (S.Shelf.meaning self.old.shelf.now) (S.Holder.room self.old.shelf.now) at ≡ false }
+        ensures { Acts (adding (viewed self.old) at.peer at.replica at.place entry.stamp entry.value) (if newer (found (S.Shelf.meaning self.old.shelf.now) at) entry.stamp then [] else Put at entry ∷ []) self.old result self.new }
     {
-        let at = Coordinate {
-            peer: to,
-            replica,
-            place,
-        };
-        let there = self.shelf.find(at);
-        if is_newer(there, stamp) {
+        if is_newer(self.shelf.find(at), entry.stamp) {
             return Answer::Older;
         }
-        store(&mut *self.shelf, at, Entry { stamp, value });
+        store(&mut *self.shelf, at, entry);
         Answer::Kept
     }
 
     // A question is answered by what its addressee has, or is to be given still.
-    fn reply(
-        &mut self,
-        state: Option<PeerState>,
-        to: u16,
-        replica: u8,
-        place: u16,
-        question: u32,
-    ) -> Answer
-        ensures { Acts S.Shelf.meaning S.Holder.room S.Shelf.cells S.Shelf.after S.Holder.frame P.Post.waiting P.Holder.room P.Holder.frame (answering (sizes S.Holder.room P.Holder.room self.old) (viewed S.Shelf.meaning P.Post.waiting self.old) state to replica place question) [] self.old result self.new }
+    fn reply(&mut self, state: Option<PeerState>, at: Coordinate, question: u32) -> Answer
+        ensures { Acts (answering (sizes self.old) (viewed self.old) state at.peer at.replica at.place question) [] self.old result self.new }
     {
-        let there = self.shelf.find(Coordinate {
-            peer: to,
-            replica,
-            place,
-        });
-        let reply = if still_to_come(self.settings, state, place) {
+        let there = self.shelf.find(at);
+        let reply = if still_to_come(self.settings, state, at.place) {
             Reply::TooEarly
         } else {
             show(there)
@@ -192,7 +156,7 @@ impl<'a, S: Shelf, P: Post<Message>> Ring<'a, S, P> {
 
     // A handover: the filler is settled, and the giver is done.
     fn take_over(&mut self, filler: u16, giver: u16, start: u16, end: u16) -> Answer
-        ensures { Acts S.Shelf.meaning S.Holder.room S.Shelf.cells S.Shelf.after S.Holder.frame P.Post.waiting P.Holder.room P.Holder.frame (handing_over (sizes S.Holder.room P.Holder.room self.old) (viewed S.Shelf.meaning P.Post.waiting self.old) filler giver start end) (handover_edits self.old.settings.size filler giver start end (S.Shelf.meaning self.old.shelf.now)) self.old result self.new }
+        ensures { Acts (handing_over (sizes self.old) (viewed self.old) filler giver start end) (handover_edits self.old.settings.size filler giver start end (S.Shelf.meaning self.old.shelf.now)) self.old result self.new }
     {
         let moved = hand_over(&mut *self.shelf, self.settings, filler, giver, start, end);
         release(&mut self.table, giver);
@@ -200,10 +164,55 @@ impl<'a, S: Shelf, P: Post<Message>> Ring<'a, S, P> {
         Answer::Moved(moved as u64)
     }
 
+    // A copy that reaches a peer: the owner of its place keeps it, another sends it on.
+    fn bring(&mut self, at: Coordinate, entry: Entry) -> Answer
+        requires place { no_place (P.Post.waiting self.old.post.now) (P.Holder.room self.old.post.now) ≡ false }
+        requires cell { cramped (sizes self.old) (viewed self.old) (Some (AddItem at.peer at.replica at.place entry.stamp entry.value)) ≡ false }
+        ensures { Acts (delivered (sizes self.old) (viewed self.old) None (AddItem at.peer at.replica at.place entry.stamp entry.value)) (delivery_edits (sizes self.old) (viewed self.old) (Some (AddItem at.peer at.replica at.place entry.stamp entry.value))) self.old result self.new }
+    {
+        let owner = self.owner_or(at.place, at.peer);
+        if owner == at.peer {
+            return self.keep(at, entry);
+        }
+        let Coordinate { replica, place, .. } = at;
+        let Entry { stamp, value } = entry;
+        self.send(
+            Message::AddItem {
+                to: owner,
+                replica,
+                place,
+                stamp,
+                value,
+            },
+            Answer::Sent,
+        )
+    }
+
+    // A question that reaches a peer: the owner of the place replies, another sends it on.
+    fn question(&mut self, state: Option<PeerState>, at: Coordinate, question: u32) -> Answer
+        requires { no_place (P.Post.waiting self.old.post.now) (P.Holder.room self.old.post.now) ≡ false }
+        ensures { Acts (delivered (sizes self.old) (viewed self.old) state (GetItem at.peer at.replica at.place question)) [] self.old result self.new }
+    {
+        let owner = self.owner_or(at.place, at.peer);
+        if at.peer == owner {
+            return self.reply(state, at, question);
+        }
+        let Coordinate { replica, place, .. } = at;
+        self.send(
+            Message::GetItem {
+                to: owner,
+                replica,
+                place,
+                question,
+            },
+            Answer::Sent,
+        )
+    }
+
     // A message that was taken from the post reaches its addressee.
     fn receive(&mut self, message: Message) -> Answer
-        requires { (no_place (P.Post.waiting self.old.post.now) (P.Holder.room self.old.post.now) ≡ false) × (cramped (sizes S.Holder.room P.Holder.room self.old) (viewed S.Shelf.meaning P.Post.waiting self.old) (Some message) ≡ false) }
-        ensures { Acts S.Shelf.meaning S.Holder.room S.Shelf.cells S.Shelf.after S.Holder.frame P.Post.waiting P.Holder.room P.Holder.frame (delivered (sizes S.Holder.room P.Holder.room self.old) (viewed S.Shelf.meaning P.Post.waiting self.old) (state_of (peers_of self.old.table) (addressed message)) message) (delivery_edits (sizes S.Holder.room P.Holder.room self.old) (viewed S.Shelf.meaning P.Post.waiting self.old) (Some message)) self.old result self.new }
+        requires { (no_place (P.Post.waiting self.old.post.now) (P.Holder.room self.old.post.now) ≡ false) × (cramped (sizes self.old) (viewed self.old) (Some message) ≡ false) }
+        ensures { Acts (delivered (sizes self.old) (viewed self.old) (state_of (peers_of self.old.table) (addressed message)) message) (delivery_edits (sizes self.old) (viewed self.old) (Some message)) self.old result self.new }
     {
         match (self.table.state_of(addressee(message)), message) {
             (
@@ -214,15 +223,15 @@ impl<'a, S: Shelf, P: Post<Message>> Ring<'a, S, P> {
                     start,
                     end,
                 },
-            ) => self.send(
-                Message::Replicate {
+            ) => {
+                let reply = Message::Replicate {
                     to: from,
                     from: to,
                     start,
                     end,
-                },
-                Answer::Asked,
-            ),
+                };
+                self.send(reply, Answer::Asked)
+            }
             (
                 _,
                 Message::Replicate {
@@ -235,57 +244,47 @@ impl<'a, S: Shelf, P: Post<Message>> Ring<'a, S, P> {
             (
                 _,
                 Message::AddItem {
-                    to,
+                    to: peer,
                     replica,
                     place,
                     stamp,
                     value,
                 },
             ) => {
-                let owner = self.owner_or(place, to);
-                if owner != to {
-                    return self.send(
-                        Message::AddItem {
-                            to: owner,
-                            replica,
-                            place,
-                            stamp,
-                            value,
-                        },
-                        Answer::Sent,
-                    );
-                }
-                self.keep(to, replica, place, stamp, value)
+                self.bring(
+                    Coordinate {
+                        peer,
+                        replica,
+                        place,
+                    },
+                    Entry { stamp, value },
+                )
             }
             (
                 state,
                 Message::GetItem {
-                    to,
+                    to: peer,
                     replica,
                     place,
                     question,
                 },
             ) => {
-                let owner = self.owner_or(place, to);
-                if to != owner {
-                    return self.send(
-                        Message::GetItem {
-                            to: owner,
-                            replica,
-                            place,
-                            question,
-                        },
-                        Answer::Sent,
-                    );
-                }
-                self.reply(state, to, replica, place, question)
+                self.question(
+                    state,
+                    Coordinate {
+                        peer,
+                        replica,
+                        place,
+                    },
+                    question,
+                )
             }
         }
     }
 
     // Delivers the message at a position, from 0.
     pub fn deliver(&mut self, n: u64) -> Answer
-        ensures { Performs S.Shelf.meaning S.Holder.room S.Shelf.cells S.Shelf.after S.Holder.frame P.Post.waiting P.Holder.room P.Holder.frame (Deliver n) self.old result self.new }
+        ensures { Performs (Deliver n) self.old result self.new }
     {
         match self.message_at(n) {
             Err(fault) => Answer::Refused(fault),

@@ -1,6 +1,6 @@
 // Insert, lookup and collect.
 ghost use Rattle.std.specs.Prelude.{◌≡◌, ◌+◌, ◌-◌, ◌<◌, ◌≤◌, List, [], ◌∷◌, ◌++◌, length, Some, None};
-ghost use Rattle.faults.specs.Checks.{first_fault};
+ghost use Rattle.faults.specs.Checks.{answered, first_fault};
 ghost use Rattle.rules.specs.declared.Call.TheVariants.{Insert, Lookup, Collect};
 ghost use Rattle.rules.specs.State.{Settings as sizing, owner_else};
 ghost use Rattle.rules.specs.Refusals.{cells_left, insert_checks, lookup_checks};
@@ -20,14 +20,7 @@ use tables::Table;
 // How many stamps, and how many question numbers, are given.
 const MOST_NUMBERS: u32 = 1_000_000;
 
-// The owner of a place; the place itself where there is no member.
-fn owner_of(table: &Table, settings: Settings, place: u16) -> u16
-    ensures { result ≡ owner_else (sized settings) (peers_of table.now) place place }
-{
-    table.owner(settings, place).unwrap_or(place)
-}
-
-// Sends the copies of an insert, each to the owner of its place.
+// Sends the copies of an insert, each to the owner of its place. The post comes apart from the ring, so that the loop changes nothing else.
 fn send_additions<P: Post<Message>>(
     post: &mut P,
     table: &Table,
@@ -38,14 +31,12 @@ fn send_additions<P: Post<Message>>(
 )
     requires { length (P.Post.waiting post.old) + settings.copies ≤ P.Holder.room post.old }
     ensures after { P.Post.waiting post.new ≡ P.Post.waiting post.old ++ additions (sized settings) (peers_of table.now) item stamp value settings.copies }
-    ensures size { P.Holder.room post.new ≡ P.Holder.room post.old }
     ensures same { P.Holder.frame post.new ≡ P.Holder.frame post.old }
 {
     let copies = settings.copies();
-    for sent in 0..copies {
-        let replica = sent + 1;
+    for replica in 1..=copies {
         let place = settings.place_of(item, replica);
-        let to = owner_of(table, settings, place);
+        let to = table.owner(settings, place).unwrap_or(place);
         let _ = post.put(Message::AddItem {
             to,
             replica,
@@ -59,61 +50,56 @@ fn send_additions<P: Post<Message>>(
 impl<'a, S: Shelf, P: Post<Message>> Ring<'a, S, P> {
     // The cells that are neither kept nor waited for.
     fn cells_left(&self) -> usize
-        ensures { result ≡ cells_left (sizes S.Holder.room P.Holder.room self.now) (viewed S.Shelf.meaning P.Post.waiting self.now) }
+        ensures { result ≡ cells_left (sizes self.now) (viewed self.now) }
     {
-        let shelf = &*self.shelf;
-        let post = &*self.post;
-        let _ = shelf.count();
-        room_left(shelf).saturating_sub(adds_waiting(post))
+        room_left(&*self.shelf).saturating_sub(adds_waiting(&*self.post))
     }
 
-    // Why an insert is refused.
-    fn insert_fault(&self, item: u64) -> Option<Fault>
-        ensures { result ≡ first_fault (insert_checks (sizes S.Holder.room P.Holder.room self.now) (viewed S.Shelf.meaning P.Post.waiting self.now) item) }
+    // A number as an item that may be inserted.
+    #[tactic(auto, using(std::proofs::lemmas::Bool::Decides::nat_tests), unfolding(rules::specs::Refusals::insert_checks))]
+    fn insertable(&self, item: u64) -> Result<u16, Fault>
+        ensures { result ≡ answered (insert_checks (sizes self.now) (viewed self.now) item) item }
     {
-        if item >= self.settings.size() as u64 {
-            return Some(Fault::Identifier);
-        }
+        let item = self.settings.identifier(item)?;
         if !self.table.has_members() {
-            return Some(Fault::NoMember);
+            return Err(Fault::NoMember);
         }
         if self.stamp > MOST_NUMBERS {
-            return Some(Fault::NumbersSpent);
+            return Err(Fault::NumbersSpent);
         }
         let copies = self.settings.copies() as usize;
         let left = self.cells_left();
         if left < copies {
-            return Some(Fault::ShelfFull(left as u64));
+            return Err(Fault::ShelfFull(left as u64));
         }
-        self.post_fault(copies)
+        self.check_post(copies)?;
+        Ok(item)
     }
 
-    // Why a lookup is refused.
-    fn lookup_fault(&self, item: u64, replica: u64) -> Option<Fault>
-        ensures { result ≡ first_fault (lookup_checks (sizes S.Holder.room P.Holder.room self.now) (viewed S.Shelf.meaning P.Post.waiting self.now) item replica) }
+    // Two numbers as an item and a replica that may be looked up.
+    #[tactic(auto, using(std::proofs::lemmas::Bool::Decides::nat_tests), unfolding(rules::specs::Refusals::lookup_checks))]
+    fn askable(&self, item: u64, replica: u64) -> Result<(u16, u8), Fault>
+        ensures { result ≡ answered (lookup_checks (sizes self.now) (viewed self.now) item replica) (item, replica) }
     {
-        if item >= self.settings.size() as u64 {
-            return Some(Fault::Identifier);
-        }
-        if replica < 1 || replica > self.settings.copies() as u64 {
-            return Some(Fault::Replica);
-        }
+        let item = self.settings.identifier(item)?;
+        let replica = self.settings.replica(replica)?;
         if !self.table.has_members() {
-            return Some(Fault::NoMember);
+            return Err(Fault::NoMember);
         }
         if self.number > MOST_NUMBERS {
-            return Some(Fault::NumbersSpent);
+            return Err(Fault::NumbersSpent);
         }
         if self.questions.is_full() {
-            return Some(Fault::QuestionsOpen);
+            return Err(Fault::QuestionsOpen);
         }
-        self.post_fault(1)
+        self.check_post(1)?;
+        Ok((item, replica))
     }
 
     // What an accepted insert does: it takes the next stamp and sends its copies.
     fn send_copies(&mut self, item: u16, value: u64)
-        requires { first_fault (insert_checks (sizes S.Holder.room P.Holder.room self.old) (viewed S.Shelf.meaning P.Post.waiting self.old) item) ≡ None }
-        ensures { Leads S.Shelf.meaning S.Holder.room S.Shelf.cells S.Shelf.after S.Holder.frame P.Post.waiting P.Holder.room P.Holder.frame (inserted (sizes S.Holder.room P.Holder.room self.old) (viewed S.Shelf.meaning P.Post.waiting self.old) item value) [] self.old self.new }
+        requires { first_fault (insert_checks (sizes self.old) (viewed self.old) item) ≡ None }
+        ensures { Leads (inserted (sizes self.old) (viewed self.old) item value) [] self.old self.new }
     {
         send_additions(
             &mut *self.post,
@@ -128,24 +114,26 @@ impl<'a, S: Shelf, P: Post<Message>> Ring<'a, S, P> {
 
     // Inserts an item with a value; the answer has its stamp.
     pub fn insert(&mut self, item: u64, value: u64) -> Answer
-        ensures { Performs S.Shelf.meaning S.Holder.room S.Shelf.cells S.Shelf.after S.Holder.frame P.Post.waiting P.Holder.room P.Holder.frame (Insert item value) self.old result self.new }
+        ensures { Performs (Insert item value) self.old result self.new }
     {
-        if let Some(fault) = self.insert_fault(item) {
-            return Answer::Refused(fault);
+        match self.insertable(item) {
+            Err(fault) => Answer::Refused(fault),
+            Ok(item) => {
+                let stamp = self.stamp;
+                self.send_copies(item, value);
+                Answer::Inserted(stamp)
+            }
         }
-        let stamp = self.stamp;
-        self.send_copies(item as u16, value);
-        Answer::Inserted(stamp)
     }
 
     // What an accepted lookup does: it takes the next number and asks the owner of the place.
     fn ask(&mut self, item: u16, replica: u8)
-        requires { first_fault (lookup_checks (sizes S.Holder.room P.Holder.room self.old) (viewed S.Shelf.meaning P.Post.waiting self.old) item replica) ≡ None }
-        ensures { Leads S.Shelf.meaning S.Holder.room S.Shelf.cells S.Shelf.after S.Holder.frame P.Post.waiting P.Holder.room P.Holder.frame (opened (sizes S.Holder.room P.Holder.room self.old) (viewed S.Shelf.meaning P.Post.waiting self.old) item replica) [] self.old self.new }
+        requires { first_fault (lookup_checks (sizes self.old) (viewed self.old) item replica) ≡ None }
+        ensures { Leads (opened (sizes self.old) (viewed self.old) item replica) [] self.old self.new }
     {
         let question = self.number;
         let place = self.settings.place_of(item, replica);
-        let to = owner_of(&self.table, self.settings, place);
+        let to = self.owner_or(place, place);
         let _ = self.questions.push(Question {
             number: question,
             reply: Reply::Waiting,
@@ -161,19 +149,21 @@ impl<'a, S: Shelf, P: Post<Message>> Ring<'a, S, P> {
 
     // Looks an item up by one of its replicas; the answer has the number of the question.
     pub fn lookup(&mut self, item: u64, replica: u64) -> Answer
-        ensures { Performs S.Shelf.meaning S.Holder.room S.Shelf.cells S.Shelf.after S.Holder.frame P.Post.waiting P.Holder.room P.Holder.frame (Lookup item replica) self.old result self.new }
+        ensures { Performs (Lookup item replica) self.old result self.new }
     {
-        if let Some(fault) = self.lookup_fault(item, replica) {
-            return Answer::Refused(fault);
+        match self.askable(item, replica) {
+            Err(fault) => Answer::Refused(fault),
+            Ok((item, replica)) => {
+                let number = self.number;
+                self.ask(item, replica);
+                Answer::Opened(number)
+            }
         }
-        let number = self.number;
-        self.ask(item as u16, replica as u8);
-        Answer::Opened(number)
     }
 
     // Closes a question and gives its answer; one that still waits is withdrawn.
     pub fn collect(&mut self, number: u64) -> Answer
-        ensures { Performs S.Shelf.meaning S.Holder.room S.Shelf.cells S.Shelf.after S.Holder.frame P.Post.waiting P.Holder.room P.Holder.frame (Collect number) self.old result self.new }
+        ensures { Performs (Collect number) self.old result self.new }
     {
         let Some(reply) = self.questions.reply_to(number) else {
             return Answer::Refused(Fault::NoQuestion);

@@ -20,15 +20,14 @@ use tables::{Questions, Table};
 impl<'a, S: Shelf, P: Post<Message>> Ring<'a, S, P> {
     // An empty ring; shelf and post are emptied.
     pub fn new(settings: Settings, shelf: &'a mut S, post: &'a mut P) -> Ring<'a, S, P>
-        ensures state { viewed S.Shelf.meaning P.Post.waiting result ≡ empty }
-        ensures size { sizes S.Holder.room P.Holder.room result ≡ settled settings (S.Holder.room shelf.old) (P.Holder.room post.old) }
+        ensures state { viewed result ≡ empty }
+        ensures size { sizes result ≡ settled settings (S.Holder.room shelf.old) (P.Holder.room post.old) }
         ensures cells { S.Shelf.cells result.shelf.now ≡ S.Shelf.after (S.Shelf.cells shelf.old) Empty }
         ensures same { (S.Holder.frame result.shelf.now ≡ S.Holder.frame shelf.old) × (P.Holder.frame result.post.now ≡ P.Holder.frame post.old) }
         ensures lent { (result.shelf.ghost_name ≡ shelf.entry.ghost_name) × (result.post.ghost_name ≡ post.entry.ghost_name) }
     {
         shelf.clear();
         post.empty();
-        let _ = post.count();
         Ring {
             settings,
             table: Table::new(),
@@ -41,13 +40,14 @@ impl<'a, S: Shelf, P: Post<Message>> Ring<'a, S, P> {
     }
 
     // How far the predecessor of a peer is behind it, 0 where there is none.
+    #[tactic(auto, unfolding(circle::specs::Owners::arc_length))]
     fn share_of(&self, id: u16) -> u32
         ensures { result ≡ arc_length self.now.settings.size (members (peers_of self.now.table)) id }
     {
-        match self.table.predecessor(self.settings, id) {
-            None => 0,
-            Some(before) => self.settings.distance(before, id),
-        }
+        let settings = self.settings;
+        self.table
+            .predecessor(settings, id)
+            .map_or(0, |before| settings.distance(before, id))
     }
 
     // The share of the ring that a member has.
@@ -61,7 +61,7 @@ impl<'a, S: Shelf, P: Post<Message>> Ring<'a, S, P> {
         Ok(self.share_of(id))
     }
 
-    // An item's places, replica 1 first; zeros and the fault for what is no item.
+    // An item's places, replica 1 first; the rules want eight zeros beside the fault of what is no item.
     pub fn places(&self, item: u64) -> ([u16; MOST_COPIES], Option<Fault>)
         ensures row { result.0 ≡ places_of self.now.settings.size self.now.settings.copies item }
         ensures fault { result.1 ≡ first_fault (identifier_check self.now.settings.size item ∷ []) }

@@ -15,51 +15,44 @@ use messages::Message;
 use rules::{Answer, Peer, PeerState};
 
 impl<'a, S: Shelf, P: Post<Message>> Ring<'a, S, P> {
-    // Why a join is refused.
-    fn join_fault(&self, peer: u64) -> Option<Fault>
-        ensures { result ≡ first_fault (join_checks (sizes S.Holder.room P.Holder.room self.now) (viewed S.Shelf.meaning P.Post.waiting self.now) peer) }
+    // A number as a peer that may join.
+    #[tactic(auto, using(std::proofs::lemmas::Bool::Decides::nat_tests), unfolding(rules::specs::Refusals::join_checks))]
+    fn newcomer(&self, peer: u64) -> Result<u16, Fault>
+        ensures { result ≡ answered (join_checks (sizes self.now) (viewed self.now) peer) peer }
     {
-        if peer >= self.settings.size() as u64 {
-            return Some(Fault::Identifier);
-        }
-        let id = peer as u16;
+        let id = self.settings.identifier(peer)?;
         if self.table.state_of(id).is_some() {
-            return Some(Fault::OnTable);
+            return Err(Fault::OnTable);
         }
         if self.table.is_full() {
-            return Some(Fault::TableFull);
+            return Err(Fault::TableFull);
         }
-        match self.table.successor(self.settings, id) {
-            None => None,
-            Some(next) => {
-                if !self.is_settled(next) {
-                    return Some(Fault::NotSettled);
-                }
-                self.post_fault(1)
+        if let Some(next) = self.table.successor(self.settings, id) {
+            if !self.is_settled(next) {
+                return Err(Fault::NotSettled);
             }
+            self.check_post(1)?;
         }
+        Ok(id)
     }
 
-    // Why a leave is refused.
-    fn leave_fault(&self, peer: u64) -> Option<Fault>
-        ensures { result ≡ first_fault (leave_checks (sizes S.Holder.room P.Holder.room self.now) (viewed S.Shelf.meaning P.Post.waiting self.now) peer) }
+    // A number as a peer that may leave.
+    #[tactic(auto, using(std::proofs::lemmas::Bool::Decides::nat_tests), unfolding(rules::specs::Refusals::leave_checks))]
+    fn leaver(&self, peer: u64) -> Result<u16, Fault>
+        ensures { result ≡ answered (leave_checks (sizes self.now) (viewed self.now) peer) peer }
     {
-        if peer >= self.settings.size() as u64 {
-            return Some(Fault::Identifier);
-        }
-        let id = peer as u16;
+        let id = self.settings.identifier(peer)?;
         if !self.is_member(id) {
-            return Some(Fault::NotMember);
+            return Err(Fault::NotMember);
         }
-        match self.table.successor(self.settings, id) {
-            None => Some(Fault::OnlyMember),
-            Some(next) => {
-                if !self.is_settled(id) || !self.is_settled(next) {
-                    return Some(Fault::NotSettled);
-                }
-                self.post_fault(1)
-            }
+        let Some(next) = self.table.successor(self.settings, id) else {
+            return Err(Fault::OnlyMember);
+        };
+        if !self.is_settled(id) || !self.is_settled(next) {
+            return Err(Fault::NotSettled);
         }
+        self.check_post(1)?;
+        Ok(id)
     }
 
     // The predecessor and the successor of a peer, where there are other members.
@@ -73,8 +66,8 @@ impl<'a, S: Shelf, P: Post<Message>> Ring<'a, S, P> {
 
     // What an accepted join does: the peer fills its arc from its successor, or is settled at once where it is alone.
     fn admit(&mut self, id: u16)
-        requires { first_fault (join_checks (sizes S.Holder.room P.Holder.room self.old) (viewed S.Shelf.meaning P.Post.waiting self.old) id) ≡ None }
-        ensures { Leads S.Shelf.meaning S.Holder.room S.Shelf.cells S.Shelf.after S.Holder.frame P.Post.waiting P.Holder.room P.Holder.frame (joined_to (sizes S.Holder.room P.Holder.room self.old) (viewed S.Shelf.meaning P.Post.waiting self.old) id) [] self.old self.new }
+        requires { first_fault (join_checks (sizes self.old) (viewed self.old) id) ≡ None }
+        ensures { Leads (joined_to (sizes self.old) (viewed self.old) id) [] self.old self.new }
     {
         match self.neighbours(id) {
             None => {
@@ -105,19 +98,21 @@ impl<'a, S: Shelf, P: Post<Message>> Ring<'a, S, P> {
 
     // A peer joins the ring.
     pub fn join(&mut self, peer: u64) -> Answer
-        ensures { Performs S.Shelf.meaning S.Holder.room S.Shelf.cells S.Shelf.after S.Holder.frame P.Post.waiting P.Holder.room P.Holder.frame (Join peer) self.old result self.new }
+        ensures { Performs (Join peer) self.old result self.new }
     {
-        if let Some(fault) = self.join_fault(peer) {
-            return Answer::Refused(fault);
+        match self.newcomer(peer) {
+            Err(fault) => Answer::Refused(fault),
+            Ok(id) => {
+                self.admit(id);
+                Answer::Done
+            }
         }
-        self.admit(peer as u16);
-        Answer::Done
     }
 
     // What an accepted leave does: the peer hands its arc to its successor, which fills it.
     fn dismiss(&mut self, id: u16)
-        requires { first_fault (leave_checks (sizes S.Holder.room P.Holder.room self.old) (viewed S.Shelf.meaning P.Post.waiting self.old) id) ≡ None }
-        ensures { Leads S.Shelf.meaning S.Holder.room S.Shelf.cells S.Shelf.after S.Holder.frame P.Post.waiting P.Holder.room P.Holder.frame (gone_from (sizes S.Holder.room P.Holder.room self.old) (viewed S.Shelf.meaning P.Post.waiting self.old) id) [] self.old self.new }
+        requires { first_fault (leave_checks (sizes self.old) (viewed self.old) id) ≡ None }
+        ensures { Leads (gone_from (sizes self.old) (viewed self.old) id) [] self.old self.new }
     {
         if let Some((start, filler)) = self.neighbours(id) {
             self.table.set_state(id, PeerState::Leaving);
@@ -138,12 +133,14 @@ impl<'a, S: Shelf, P: Post<Message>> Ring<'a, S, P> {
 
     // A peer leaves the ring.
     pub fn leave(&mut self, peer: u64) -> Answer
-        ensures { Performs S.Shelf.meaning S.Holder.room S.Shelf.cells S.Shelf.after S.Holder.frame P.Post.waiting P.Holder.room P.Holder.frame (Leave peer) self.old result self.new }
+        ensures { Performs (Leave peer) self.old result self.new }
     {
-        if let Some(fault) = self.leave_fault(peer) {
-            return Answer::Refused(fault);
+        match self.leaver(peer) {
+            Err(fault) => Answer::Refused(fault),
+            Ok(id) => {
+                self.dismiss(id);
+                Answer::Done
+            }
         }
-        self.dismiss(peer as u16);
-        Answer::Done
     }
 }

@@ -5,17 +5,20 @@
 mod tests {
     use arithmetic::Settings;
     use byte_posts::BytePost;
-    use copies::{Coordinate, CopyRecord, Entry};
+    use copies::CopyRecord;
     use holders::{Post, Shelf};
     use log_shelves::LogShelf;
     use messages::Message;
     use rack_posts::RackPost;
     use rack_shelves::RackShelf;
+    use racks::Blank;
     use rules::{Answer, Call};
     use runs::{Order, run};
+    use std::array;
     use std::test::Fail;
 
     // A xorshift generator.
+    #[derive(Drop)]
     struct Dice(u64);
 
     impl Dice {
@@ -38,113 +41,50 @@ mod tests {
         }
     }
 
-    fn draw(orders: &mut [Order], seed: u64) {
+    fn drawn(seed: u64) -> [Order; 300] {
         let mut dice = Dice(seed);
-        for i in 0..orders.len() {
-            let call = dice.call();
-            orders[i] = Order {
-                call,
-                answer: Answer::Done,
-            };
-        }
-        let Dice(_) = dice;
+        array::from_fn(|_| Order {
+            call: dice.call(),
+            answer: Answer::Done,
+        })
     }
 
-    fn play<S: Shelf, P: Post<Message>>(
+    // What a ring over the shelf and the post answers.
+    fn answers<S: Shelf, P: Post<Message>>(
         settings: Settings,
+        seed: u64,
         shelf: &mut S,
         post: &mut P,
-        orders: &mut [Order],
-    ) {
-        let _ring = run(settings, shelf, post, orders);
-    }
-
-    fn same(left: &[Order], right: &[Order]) -> bool {
-        for (one, other) in left.iter().zip(right.iter()) {
-            if one.answer != other.answer {
-                return false;
-            }
-        }
-        left.len() == right.len()
-    }
-
-    fn over_racks(settings: Settings, seed: u64) -> [Order; 300] {
-        let mut cells = [CopyRecord {
-            at: Coordinate {
-                peer: 0,
-                replica: 0,
-                place: 0,
-            },
-            held: Entry { stamp: 0, value: 0 },
-        }; 40];
-        let mut places = [Message::GetItem {
-            to: 0,
-            replica: 0,
-            place: 0,
-            question: 0,
-        }; 12];
-        let mut orders = [Order {
-            call: Call::Join(0),
-            answer: Answer::Done,
-        }; 300];
-        draw(&mut orders, seed);
-        play(
-            settings,
-            &mut RackShelf::make(&mut cells),
-            &mut RackPost::make(&mut places),
-            &mut orders,
-        );
-        orders
-    }
-
-    fn over_rack_and_bytes(settings: Settings, seed: u64) -> [Order; 300] {
-        let mut cells = [CopyRecord {
-            at: Coordinate {
-                peer: 0,
-                replica: 0,
-                place: 0,
-            },
-            held: Entry { stamp: 0, value: 0 },
-        }; 40];
-        let mut bytes = [7u8; 270];
-        let mut orders = [Order {
-            call: Call::Join(0),
-            answer: Answer::Done,
-        }; 300];
-        draw(&mut orders, seed);
-        play(
-            settings,
-            &mut RackShelf::make(&mut cells),
-            &mut BytePost::make(&mut bytes),
-            &mut orders,
-        );
-        orders
-    }
-
-    fn over_log_and_bytes(settings: Settings, seed: u64) -> [Order; 300] {
-        let mut log = [7u8; 725];
-        let mut bytes = [7u8; 270];
-        let mut orders = [Order {
-            call: Call::Join(0),
-            answer: Answer::Done,
-        }; 300];
-        draw(&mut orders, seed);
-        play(
-            settings,
-            &mut LogShelf::make(&mut log),
-            &mut BytePost::make(&mut bytes),
-            &mut orders,
-        );
-        orders
+    ) -> [Answer; 300] {
+        let mut orders = drawn(seed);
+        let _ring = run(settings, shelf, post, &mut orders);
+        orders.map(|order| order.answer)
     }
 
     #[test]
     fn answers_agree(rt: HostRuntime) -> Result<(), Fail> {
         let settings = Settings::new(16, 4)?;
         for seed in 1..200 {
-            let first = over_racks(settings, seed);
-            assert!(rt; same(&first, &over_rack_and_bytes(settings, seed)));
-            assert!(rt; same(&first, &over_log_and_bytes(settings, seed)));
+            let racks = answers(
+                settings,
+                seed,
+                &mut RackShelf::make(&mut [CopyRecord::default(); 40]),
+                &mut RackPost::make(&mut [Message::blank(); 12]),
+            );
+            let rack_and_bytes = answers(
+                settings,
+                seed,
+                &mut RackShelf::make(&mut [CopyRecord::default(); 40]),
+                &mut BytePost::make(&mut [7u8; 270]),
+            );
+            let log_and_bytes = answers(
+                settings,
+                seed,
+                &mut LogShelf::make(&mut [7u8; 725]),
+                &mut BytePost::make(&mut [7u8; 270]),
+            );
+            assert!(rt; racks == rack_and_bytes);
+            assert!(rt; racks == log_and_bytes);
         }
         Ok(())
     }

@@ -3,51 +3,29 @@
 //     ringsheet < week.sheet
 #![tactic(auto)]
 
-ghost use Rattle.std.specs.Prelude.{◌≤◌, length, IfOk};
-
 use byte_posts::BytePost;
-use copies::{Coordinate, CopyRecord, Entry};
+use copies::CopyRecord;
+use lines::SHEET_LIMIT;
 use rack_shelves::RackShelf;
 use sheets::answer_sheet;
 use std::alloc::{AllocError, Global};
 use std::io;
 use std::io::{Read, Write};
 
-// As much of a sheet as is read.
-const SHEET_BYTES: usize = 16_384;
-
 // The copies on the shelf, and the bytes of 256 messages.
 const SHELF_COPIES: usize = 1_024;
 
 const POST_BYTES: usize = 5_632;
 
-// Reads standard input as far as the buffer goes, and tells how much there was.
-fn read_sheet(rt: &HostRuntime, buffer: &mut [u8]) -> io::Result<usize>
-    ensures { IfOk result (λ n. n ≤ length buffer.old) }
-{
-    let mut input = rt.stdin();
-    let mut read = 0;
-    while read < buffer.len() {
-        let more = input.read(&mut buffer[read..])?;
-        if more == 0 {
-            break;
-        }
-        read += more;
-    }
-    Ok(read)
+fn read_sheet(rt: &HostRuntime) -> io::Result<Vec<u8>> {
+    let mut sheet = Vec::new(rt.alloc());
+    rt.stdin().take(SHEET_LIMIT as u64).read_to_end(&mut sheet)?;
+    Ok(sheet)
 }
 
 // Answers a sheet with a rack shelf and a byte post, in memory of their own.
 fn answer(heap: Global, sheet: &[u8]) -> Result<Vec<u8>, AllocError> {
-    let blank = CopyRecord {
-        at: Coordinate {
-            peer: 0,
-            replica: 0,
-            place: 0,
-        },
-        held: Entry { stamp: 0, value: 0 },
-    };
-    let mut copies = vec![in heap; blank; SHELF_COPIES]?;
+    let mut copies = vec![in heap; CopyRecord::default(); SHELF_COPIES]?;
     let mut messages = vec![in heap; 0u8; POST_BYTES]?;
     let mut shelf = RackShelf::make(copies.as_mut_slice());
     let mut post = BytePost::make(messages.as_mut_slice());
@@ -55,9 +33,8 @@ fn answer(heap: Global, sheet: &[u8]) -> Result<Vec<u8>, AllocError> {
 }
 
 fn main(rt: HostRuntime) -> anyhow::Result<()> {
-    let mut sheet = vec![in rt.alloc(); 0u8; SHEET_BYTES]?;
-    let read = read_sheet(&rt, sheet.as_mut_slice())?;
-    let text = answer(rt.alloc(), &sheet.as_slice()[0..read])?;
-    rt.stdout().write_all(text.as_slice())?;
+    let sheet = read_sheet(&rt)?;
+    let text = answer(rt.alloc(), &sheet)?;
+    rt.stdout().write_all(&text)?;
     Ok(())
 }

@@ -1,10 +1,10 @@
 -- Entries in a row, told apart by a key. Assumes nothing.
-use Rattle.std.specs.Prelude.{ℕ, Bool, cond, not, List, [], ◌∷◌, map, Some, None, filter, Option, ◌==◌}
+use Rattle.std.specs.Prelude.{ℕ, Bool, cond, not, List, map, filter, Option, ◌==◌}
+use Rattle.std.specs.List.{find}
 
 -- the first entry with key k
 abbrev pub first_with : {X : Type 0} → (X → ℕ) → ℕ → List X → Option X
-first_with key k [] = None
-first_with key k (x ∷ xs) = cond (key x == k) (Some x) (first_with key k xs)
+first_with key k xs = find (λ x. key x == k) xs
 
 -- every entry with key k becomes v
 abbrev pub in_place : {X : Type 0} → (X → ℕ) → ℕ → X → X → X

@@ -2,9 +2,7 @@
 #![tactic(auto)]
 
 mod keyed;
-mod lists;
 mod roster;
-mod rows;
 
 pub use keyed::Keyed;
 pub use roster::Roster;

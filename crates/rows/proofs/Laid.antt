@@ -1,12 +1,15 @@
 -- Records laid one after another: what is read from them, and what each write makes of them. One text for every width.
-use Rattle.std.proofs.Common.{◌≡◌, ℕ, zero, suc, ◌+◌, ◌-◌, ◌*◌, ◌/◌, ◌<◌, ◌≤◌, ◌&&◌, leb, List, [], ◌∷◌, ◌++◌, length, get_or, take, drop, Some, sym, refl, ap, ◌∙◌, ⊎_elim, append_assoc, mod-lt, mul-le-mul_left, mul-zero, mul-suc, mul-add, arith}
+use Rattle.std.proofs.Common.{◌≡◌, ℕ, zero, suc, ◌+◌, ◌-◌, ◌*◌, ◌/◌, ◌<◌, ◌≤◌, ◌&&◌, leb, List, [], ◌∷◌, ◌++◌, length, map, get_or, take, drop, Some, sym, refl, ap, ◌∙◌, ⊎_elim, append_assoc, mod-lt, mul-le-mul_left, mul-zero, mul-suc, mul-add, arith}
 use native.Mathlib.Nat.{mul-add-div, div-eq_of_lt, div-add-mod}
+use Rattle.std.specs.Simd.{first_chunks}
 use Rattle.std.specs.List.{slice_get, flat_map, remove, between}
-use Rattle.std.proofs.lemmas.List.{length-append, length-replicate, length-drop, length-take-le, take_at, drop_at, drop-drop, flat_map_more, replicate-append-replicate, length_push}
+use Rattle.std.proofs.lemmas.List.{append-nil, length-append, length-replicate, length-drop, length-take-le, take_at, drop_at, drop-drop, flat_map_more, replicate-append-replicate, length_push}
 use Rattle.std.proofs.lemmas.List.Edits.{length-remove}
+use Rattle.std.proofs.lemmas.Grind.{flat_map-append}
 use Rattle.std.proofs.lemmas.Bool.{cond-true, and_from, le-leb, cases_order}
-use Rattle.rows.specs.Bytes.{zeros, written, cleared, closed_up}
-use Rattle.rows.specs.Rows.{Form, size_in, beyond_in, rows_in, laid, Whole}
+use Rattle.slices.specs.Writes.{written, filled, closed_up}
+use Rattle.rows.specs.Bytes.{zeros}
+use Rattle.rows.specs.Rows.{Form, size_in, beyond_in, rows_in, laid, Whole, length_rows}
 
 -- ---- lists of records
 
@@ -14,14 +17,6 @@ pub length_joined : {T : Type 0} {w : ℕ} (form : Form T w) (items : List T) �
 length_joined {T} {w} form [] = sym (mul-zero w)
 length_joined {T} {w} form (x ∷ xs) =
     length-append (form.bytes x) (flat_map form.bytes xs) ∙ omega (arith, form.wide x, length_joined form xs, mul-suc w (length xs))
-
-pub joined_append : {T : Type 0} (f : T → List ℕ) (xs ys : List T) → flat_map f (xs ++ ys) ≡ flat_map f xs ++ flat_map f ys
-joined_append f [] ys = refl
-joined_append f (x ∷ xs) ys = ap (λ t. f x ++ t) (joined_append f xs ys) ∙ sym (append_assoc (f x) (flat_map f xs) (flat_map f ys))
-
-pub length_rows : {T : Type 0} {w : ℕ} (form : Form T w) (n : ℕ) (bs : List ℕ) → length (rows_in form n bs) ≡ n
-length_rows form zero bs = refl
-length_rows {T} {w} form (suc n) bs = ap suc (length_rows form n (drop w bs))
 
 -- one of the records
 pub rows_at : {T : Type 0} {w : ℕ} (form : Form T w) (n : ℕ) (bs : List ℕ) (i : ℕ) (d : T) → i < n → get_or (rows_in form n bs) i d ≡ form.first (drop (w * i) bs)
@@ -38,6 +33,31 @@ rows_laid {T} {w} form (x ∷ xs) more =
     let later = flat_map form.bytes xs ++ more in
     let whole = append_assoc (form.bytes x) (flat_map form.bytes xs) more in
     ap (λ t. form.first t ∷ rows_in form (length xs) (drop w t)) whole ∙ (ap (λ t. t ∷ rows_in form (length xs) (drop w (form.bytes x ++ later))) (form.back x later) ∙ ap (λ t. x ∷ t) (ap (rows_in form (length xs)) (drop_at (form.bytes x) later w (form.wide x)) ∙ rows_laid form xs more))
+
+-- the first of the pieces that bytes are cut into
+pub take_chunks : (w n m : ℕ) (bs : List ℕ) → n ≤ m → take n (first_chunks w m bs) ≡ first_chunks w n bs
+take_chunks w zero m bs h = refl
+take_chunks w (suc n) zero bs h = absurd (omega arith)
+take_chunks w (suc n) (suc m) bs h = ap (λ t. take w bs ∷ t) (take_chunks w n m (drop w bs) (omega arith))
+
+-- what was laid is taken apart again
+chunks_laid : {T : Type 0} {w : ℕ} (form : Form T w) (items : List T) (more : List ℕ) → first_chunks w (length items) (flat_map form.bytes items ++ more) ≡ map form.bytes items
+chunks_laid form [] more = refl
+chunks_laid {T} {w} form (x ∷ xs) more =
+    let later = flat_map form.bytes xs ++ more in
+    let whole = append_assoc (form.bytes x) (flat_map form.bytes xs) more in
+    ap (λ t. take w t ∷ first_chunks w (length xs) (drop w t)) whole ∙ (ap (λ t. t ∷ first_chunks w (length xs) (drop w (form.bytes x ++ later))) (take_at (form.bytes x) later w (form.wide x)) ∙ ap (λ t. form.bytes x ∷ t) (ap (first_chunks w (length xs)) (drop_at (form.bytes x) later w (form.wide x)) ∙ chunks_laid form xs more))
+
+-- those in use are the pieces that the bytes begin with
+pub chunks_at : {T : Type 0} {w : ℕ} (form : Form T w) (bs : List ℕ) (items : List T) (more : List ℕ) (n m : ℕ) (chunks : List (List ℕ)) → bs ≡ flat_map form.bytes items ++ more → n ≡ length items → n ≤ m → chunks ≡ first_chunks w m bs → take n chunks ≡ map form.bytes items
+chunks_at {T} {w} form bs items more n m chunks h e le f =
+    ap (take n) f ∙ (take_chunks w n m bs le ∙ (ap (λ k. first_chunks w k bs) e ∙ (ap (first_chunks w (length items)) h ∙ chunks_laid form items more)))
+
+-- each of them is read again
+pub read_again : {T : Type 0} {w : ℕ} (form : Form T w) (items : List T) → map form.first (map form.bytes items) ≡ items
+read_again form [] = refl
+read_again form (x ∷ xs) =
+    ap (λ t. form.first t ∷ map form.first (map form.bytes xs)) (sym (append-nil (form.bytes x))) ∙ (ap (λ t. t ∷ map form.first (map form.bytes xs)) (form.back x []) ∙ ap (λ t. x ∷ t) (read_again form xs))
 
 length_zeros : (n : ℕ) → length (zeros n) ≡ n
 length_zeros n = length-replicate n 0
@@ -151,7 +171,7 @@ row_at {T} {w} form bs items more n h l =
     let later = flat_map f (drop (suc n) items) in
     let fl : length front ≡ w * n = length_joined form (take n items) ∙ ap (λ k. w * k) (length-take-le n items (omega arith)) in
     let wide = form.wide y in
-    let parts : flat_map f items ≡ front ++ (f y ++ later) = ap (flat_map f) s.1.0 ∙ joined_append f (take n items) (y ∷ drop (suc n) items) in
+    let parts : flat_map f items ≡ front ++ (f y ++ later) = ap (flat_map f) s.1.0 ∙ flat_map-append f (take n items) (y ∷ drop (suc n) items) in
     let whole : bs ≡ front ++ (f y ++ (later ++ more)) = h ∙ (ap (λ t. t ++ more) parts ∙ (append_assoc front (f y ++ later) more ∙ ap (λ t. front ++ t) (append_assoc (f y) later more))) in
     let gap : length (front ++ f y) ≡ w * n + w = length-append front (f y) ∙ omega arith in
     let width : w * n + w - w * n ≡ w = omega arith in (
@@ -165,7 +185,7 @@ row_at {T} {w} form bs items more n h l =
     )
 
 -- the record at n taken out
-pub laid_closed : {T : Type 0} {w : ℕ} (form : Form T w) (most : ℕ) (bs : List ℕ) (items : List T) (k : ℕ) (rest : List ℕ) (n at end : ℕ) → Laid form most bs items k rest → n < length items → at ≡ w * n → end ≡ w * length items → Laid form most (closed_up bs at w end) (remove items n) (suc k) rest
+pub laid_closed : {T : Type 0} {w : ℕ} (form : Form T w) (most : ℕ) (bs : List ℕ) (items : List T) (k : ℕ) (rest : List ℕ) (n at end : ℕ) → Laid form most bs items k rest → n < length items → at ≡ w * n → end ≡ w * length items → Laid form most (closed_up bs at w end 0) (remove items n) (suc k) rest
 laid_closed {T} {w} form most bs items k rest n at end h l a e =
     let f = form.bytes in
     let more = zeros (w * k) ++ rest in
@@ -187,13 +207,13 @@ laid_closed {T} {w} form most bs items k rest n at end h l a e =
     let before : take at bs ≡ front = ap (λ i. take i bs) a ∙ r.before in
     let fewer = length-remove items n l in
     record {
-      bytes = cond-true (leb (at + w) end && leb end (length bs)) _ bs (and_from (leb (at + w) end) (leb end (length bs)) (le-leb (at + w) end fits) (le-leb end (length bs) ends)) ∙ (ap (λ t. t ++ (between (at + w) end bs ++ (zeros w ++ drop end bs))) before ∙ (ap (λ t. front ++ (t ++ (zeros w ++ drop end bs))) moved ∙ (ap (λ t. front ++ (later ++ (zeros w ++ t))) past ∙ (ap (λ t. front ++ (later ++ t)) (sym (append_assoc (zeros w) (zeros (w * k)) rest) ∙ ap (λ z. z ++ rest) (sym (zeros_more w k))) ∙ (sym (append_assoc front later (zeros (w * suc k) ++ rest)) ∙ ap (λ t. t ++ (zeros (w * suc k) ++ rest)) (sym (joined_append f (take n items) (drop (suc n) items))))))));
+      bytes = cond-true (leb (at + w) end && leb end (length bs)) _ bs (and_from (leb (at + w) end) (leb end (length bs)) (le-leb (at + w) end fits) (le-leb end (length bs) ends)) ∙ (ap (λ t. t ++ (between (at + w) end bs ++ (zeros w ++ drop end bs))) before ∙ (ap (λ t. front ++ (t ++ (zeros w ++ drop end bs))) moved ∙ (ap (λ t. front ++ (later ++ (zeros w ++ t))) past ∙ (ap (λ t. front ++ (later ++ t)) (sym (append_assoc (zeros w) (zeros (w * k)) rest) ∙ ap (λ z. z ++ rest) (sym (zeros_more w k))) ∙ (sym (append_assoc front later (zeros (w * suc k) ++ rest)) ∙ ap (λ t. t ++ (zeros (w * suc k) ++ rest)) (sym (flat_map-append f (take n items) (drop (suc n) items))))))));
       within = omega (arith, h.within);
       short = λ lt. h.short (omega arith);
     }
 
 -- zeros everywhere within the size
-pub laid_cleared : {T : Type 0} {w : ℕ} (form : Form T w) (most : ℕ) (bs : List ℕ) (end : ℕ) → 0 < w → end ≡ w * size_in w most bs → Laid form most (cleared bs 0 end) [] (size_in w most bs) (beyond_in w most bs)
+pub laid_cleared : {T : Type 0} {w : ℕ} (form : Form T w) (most : ℕ) (bs : List ℕ) (end : ℕ) → 0 < w → end ≡ w * size_in w most bs → Laid form most (filled bs 0 end 0) [] (size_in w most bs) (beyond_in w most bs)
 laid_cleared {T} {w} form most bs end pos e =
     let size = size_in w most bs in
     let d = div-add-mod (length bs) w in

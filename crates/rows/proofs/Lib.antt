@@ -1,3 +1,2 @@
-pub mod Parts
 pub mod Laid
-pub mod Grounds
+pub mod Trays

@@ -1,6 +1,7 @@
 -- Records of one width, one after another in some bytes. Assumes nothing.
 use Rattle.std.specs.Prelude.{◌≡◌, ℕ, zero, suc, ◌-◌, ◌*◌, ◌/◌, min, List, [], ◌∷◌, ◌++◌, length, drop}
 use Rattle.std.specs.List.{flat_map}
+use Rattle.std.proofs.Common.{ap, refl}
 use Rattle.rows.specs.Bytes.{zeros}
 
 -- the bytes of a record, and the record that some bytes begin with
@@ -22,6 +23,11 @@ beyond_in width most bs = drop (width * size_in width most bs) bs
 abbrev pub rows_in : {T : Type 0} {width : ℕ} → Form T width → ℕ → List ℕ → List T
 rows_in form zero bs = []
 rows_in {T} {width} form (suc n) bs = form.first bs ∷ rows_in form n (drop width bs)
+
+-- as many as are asked for
+pub length_rows : {T : Type 0} {w : ℕ} (form : Form T w) (n : ℕ) (bs : List ℕ) → length (rows_in form n bs) ≡ n
+length_rows form zero bs = refl
+length_rows {T} {w} form (suc n) bs = ap suc (length_rows form n (drop w bs))
 
 -- records, places with zeros, and what lies beyond
 abbrev pub laid : {T : Type 0} {width : ℕ} → Form T width → List T → ℕ → List ℕ → List ℕ

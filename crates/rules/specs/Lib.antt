@@ -5,3 +5,4 @@ pub mod Rules
 pub mod Runs
 pub mod Laws
 pub mod Edits
+pub mod Texts

@@ -1,12 +1,15 @@
 // The words of the ring's six calls: peers and their states, open questions, calls and answers.
 #![tactic(auto)]
 
+mod texts;
+
 use faults::Fault;
 
 // What a peer on the table is doing.
-#[derive(Clone, Copy, PartialEq, Eq, Debug)]
+#[derive(Clone, Copy, PartialEq, Eq, Debug, Default)]
 pub enum PeerState {
     // it takes no part in a handover
+    #[default]
     Settled,
     // it is owed the copies that `from` has of the arc from `start` to `end`
     Filling { from: u16, start: u16, end: u16 },
@@ -17,16 +20,18 @@ pub enum PeerState {
 }
 
 // An entry of the table.
-#[derive(Clone, Copy, PartialEq, Eq, Debug)]
+#[derive(Clone, Copy, PartialEq, Eq, Debug, Default)]
 pub struct Peer {
     pub id: u16,
     pub state: PeerState,
 }
 
-// What is known of an open question.
-#[derive(Clone, Copy, PartialEq, Eq, Debug)]
+// What is known of an open question. A copy that was there and none are two cases, not an Option in one: each answer to a collect has a case of its
+// own, with its numbers.
+#[derive(Clone, Copy, PartialEq, Eq, Debug, Default)]
 pub enum Reply {
     // its GETITEM waits
+    #[default]
     Waiting,
     // the owner did not have the copies of the place yet
     TooEarly,
@@ -37,7 +42,7 @@ pub enum Reply {
 }
 
 // An open question.
-#[derive(Clone, Copy, PartialEq, Eq, Debug)]
+#[derive(Clone, Copy, PartialEq, Eq, Debug, Default)]
 pub struct Question {
     pub number: u32,
     pub reply: Reply,

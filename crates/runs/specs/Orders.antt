@@ -1,6 +1,5 @@
 -- A list of orders, run on a ring: what its answers are, and what becomes of the ring and of the shelf's memory. Assumes nothing.
 use Rattle.std.specs.Prelude.{◌≡◌, ℕ, List, [], ◌∷◌, ◌++◌, map}
-use Rattle.copies.specs.declared.CopyRecord.{CopyRecord}
 use Rattle.copies.specs.declared.Edit.{Edit}
 use Rattle.messages.specs.declared.Message.{Message}
 use Rattle.rules.specs.declared.Call.{Call}
@@ -9,6 +8,9 @@ use Rattle.rules.specs.State.{Settings, State}
 use Rattle.rules.specs.Rules.{step}
 use Rattle.rules.specs.Runs.{from}
 use Rattle.rules.specs.Edits.{call_edits}
+use Rattle.holders.specs.declared.holder.Holder.{Ghosts as Holding}
+use Rattle.holders.specs.declared.shelf.Shelf.{Ghosts as Shelving}
+use Rattle.holders.specs.declared.post.Post.{Ghosts as Posting}
 use Rattle.ring.specs.declared.ring.Ring.{Ring}
 use Rattle.ring.specs.Views.{viewed, sizes, Leads}
 use Rattle.runs.specs.declared.Order.{Order}
@@ -29,8 +31,9 @@ abbrev pub edits_from : Settings → State → List Call → List Edit
 edits_from set s [] = []
 edits_from set s (c ∷ cs) = call_edits set s c ++ edits_from set (step set s c).after cs
 
--- orders run on a ring: the calls stay, each answer and the ring after them all are the rules', and so are the edits of the shelf
-pub record Runs {S P M F G : Type 0} (meaning : S → List CopyRecord) (cells : S → ℕ) (memory : S → M) (edited : M → Edit → M) (frame : S → F) (waiting : P → List Message) (slots : P → ℕ) (backing : P → G) (before : List Order) (ring : Ring S P) (after : List Order) (ring' : Ring S P) : Type 0 where
-  pub calls : map call_of after ≡ map call_of before
-  pub answers : map answer_of after ≡ answers_from (sizes cells slots ring) (viewed meaning waiting ring) (map call_of before)
-  pub leads : Leads meaning cells memory edited frame waiting slots backing (from (sizes cells slots ring) (viewed meaning waiting ring) (map call_of before)) (edits_from (sizes cells slots ring) (viewed meaning waiting ring) (map call_of before)) ring ring'
+module _ {S P : Type 0} {shelf : Shelving S} {cells : Holding S} {post : Posting P Message} {slots : Holding P} where
+  -- orders run on a ring: the calls stay, each answer and the ring after them all are the rules', and so are the edits of the shelf
+  pub record Runs (before : List Order) (ring : Ring S P shelf cells post slots) (after : List Order) (ring' : Ring S P shelf cells post slots) : Type 0 where
+    pub calls : map call_of after ≡ map call_of before
+    pub answers : map answer_of after ≡ answers_from (sizes ring) (viewed ring) (map call_of before)
+    pub leads : Leads (from (sizes ring) (viewed ring) (map call_of before)) (edits_from (sizes ring) (viewed ring) (map call_of before)) ring ring'

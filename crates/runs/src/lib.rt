@@ -20,12 +20,10 @@ pub struct Order {
 
 // Performs the orders one after the other, and writes each answer beside its call.
 pub fn perform_all<'a, S: Shelf, P: Post<Message>>(ring: &mut Ring<'a, S, P>, orders: &mut [Order])
-    ensures { Runs S.Shelf.meaning S.Holder.room S.Shelf.cells S.Shelf.after S.Holder.frame P.Post.waiting P.Holder.room P.Holder.frame orders.old ring.old orders.new ring.new }
+    ensures { Runs orders.old ring.old orders.new ring.new }
 {
-    for i in 0..orders.len() {
-        let call = orders[i].call;
-        let answer = ring.perform(call);
-        orders[i] = Order { call, answer };
+    for order in orders {
+        order.answer = ring.perform(order.call);
     }
 }
 
@@ -37,7 +35,7 @@ pub fn run<'a, S: Shelf, P: Post<Message>>(
     post: &'a mut P,
     orders: &mut [Order],
 ) -> Ring<'a, S, P>
-    ensures { Promise S.Shelf.meaning S.Holder.room S.Shelf.cells S.Shelf.after P.Post.waiting P.Holder.room (settled settings (S.Holder.room shelf.old) (P.Holder.room post.old)) (S.Shelf.cells shelf.old) orders.old orders.new result }
+    ensures { Promise (settled settings (S.Holder.room shelf.old) (P.Holder.room post.old)) (S.Shelf.cells shelf.old) orders.old orders.new result }
 {
     let mut ring = Ring::new(settings, shelf, post);
     perform_all(&mut ring, orders);

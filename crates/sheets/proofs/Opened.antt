@@ -1,73 +1,80 @@
 -- The first three lines of a sheet, one after the other. Assumes nothing.
-use Rattle.std.proofs.Common.{◌≡◌, ℕ, ◌+◌, Bool, true, false, List, [], get_or, drop, Some, None, Ok, Err, sym, ap, ◌∙◌, arith}
+use Rattle.std.proofs.Common.{◌≡◌, ℕ, ◌+◌, List, [], get_or, drop, Ok, Err, Result, sym, refl, ap, ◌∙◌, arith}
 use Rattle.std.proofs.lemmas.List.{get_or-drop, drop-drop}
 use Rattle.faults.specs.declared.Fault.{Fault}
 use Rattle.arithmetic.specs.declared.settings.Settings.{Settings}
+use Rattle.lines.specs.declared.line.Line.{Line}
 use Rattle.lines.specs.declared.lines.Lines.{Lines}
-use Rattle.lines.specs.Reading.{line_of, left_of, Advances}
+use Rattle.lines.specs.Reading.{line_of, left_of}
 use Rattle.orders.specs.declared.columns.Columns.{Columns}
 use Rattle.orders.specs.Columns.{columns_of}
-use Rattle.orders.specs.Heads.{names_fault}
-use Rattle.sheets.specs.Heads.{Opens, Refuses, head_in, settings_of, sizes_of, with_names}
+use Rattle.orders.specs.Heads.{names_of}
+use Rattle.sheets.specs.declared.heads.Refusal.{Refusal}
+use Rattle.sheets.specs.Heads.{Opens, Refuses, head_in, settings_of, sizes_of, with_names, read_at, TakesLine}
 
--- the present line after a step is the next one, or empty
-advanced_line : (l : Lines) (r : Bool) (l' : Lines) → Advances l r l' → line_of l' ≡ get_or (left_of l) 0 []
-advanced_line l true l' h = sym (ap (λ ls. get_or ls 0 []) h.0)
-advanced_line l false l' h = h.1 ∙ sym (ap (λ ls. get_or ls 0 []) h.0)
+-- what was read of a line, from what became of it
+refused : {X : Type 0} (n : ℕ) (r : Result X Fault) (e : Refusal) → Err e ≡ read_at n r → (r ≡ Err e.fault) × (n ≡ e.line)
+refused n (Ok x) e h = cc
+refused n (Err fault) e h = (cc, cc)
 
-advanced_left : (l : Lines) (r : Bool) (l' : Lines) → Advances l r l' → left_of l' ≡ drop 1 (left_of l)
-advanced_left l true l' h = sym (ap (drop 1) h.0)
-advanced_left l false l' h = h.2 ∙ sym (ap (drop 1) h.0)
+kept : {X : Type 0} (n : ℕ) (r : Result X Fault) (x : X) → Ok x ≡ read_at n r → r ≡ Ok x
+kept n (Ok y) x h = cc
+kept n (Err fault) x h = cc
 
--- where a line with fields was read, it was there
-counted : {X : Type 0} (read : List ℕ → X) (l : Lines) (r : Bool) (l' : Lines) → Advances l r l' → (read [] ≡ read (line_of l') → ⊥) → l'.number ≡ l.number + 1
-counted read l true l' h some = h.1
-counted read l false l' h some = absurd (some (ap read (sym h.1)))
+-- a line that was read has bytes
+some : {X : Type 0} (read : List ℕ → Result X Fault) (e : Fault) (x : X) (line : List ℕ) → read [] ≡ Err e → read line ≡ Ok x → line ≡ [] → ⊥
+some read e x line none is empty = let same = sym none ∙ sym (ap read empty) ∙ is in cc
 
--- some fault is not none, and a refusal is no answer
-some_none : {X : Type 0} (x : X) → Some x ≡ None → ⊥
-some_none x e = let z : ◌≡◌ {A = ℕ} 0 1 = cc in omega arith
+module _ (l₀ l₁ : Lines) (first : Line) (a₁ : TakesLine l₀ first l₁) (names : Result (Unit {0}) Fault) (n : names ≡ names_of (line_of first)) where
+  names_are : (known : Result (Unit {0}) Fault) → names ≡ known → names_of (get_or (left_of l₀) 0 []) ≡ known
+  names_are known is = ap names_of (sym a₁.line_is) ∙ sym n ∙ is
 
-err_ok : {X E : Type 0} (e : E) (x : X) → Err e ≡ Ok x → ⊥
-err_ok e x h = let z : ◌≡◌ {A = ℕ} 0 1 = cc in omega arith
-
-module _ (l₀ l₁ l₂ l₃ : Lines) (r₁ r₂ r₃ : Bool) (a₁ : Advances l₀ r₁ l₁) (a₂ : Advances l₁ r₂ l₂) (a₃ : Advances l₂ r₃ l₃) where
-  second_line : line_of l₂ ≡ get_or (left_of l₀) 1 []
-  second_line = advanced_line l₁ r₂ l₂ a₂ ∙ ap (λ ls. get_or ls 0 []) (advanced_left l₀ r₁ l₁ a₁) ∙ get_or-drop 1 (left_of l₀) 0 []
-
-  two_left : left_of l₂ ≡ drop 2 (left_of l₀)
-  two_left = advanced_left l₁ r₂ l₂ a₂ ∙ ap (drop 1) (advanced_left l₀ r₁ l₁ a₁) ∙ drop-drop 1 1 (left_of l₀)
-
-  third_line : line_of l₃ ≡ get_or (left_of l₀) 2 []
-  third_line = advanced_line l₂ r₃ l₃ a₃ ∙ ap (λ ls. get_or ls 0 []) two_left ∙ get_or-drop 2 (left_of l₀) 0 []
-
-  pub three_left : left_of l₃ ≡ drop 3 (left_of l₀)
-  three_left = advanced_left l₂ r₃ l₃ a₃ ∙ ap (drop 1) two_left ∙ drop-drop 1 2 (left_of l₀)
-
-  pub third_refused : (settings : Settings) (fault : Fault) → None ≡ names_fault (line_of l₁) → sizes_of (Ok settings) ≡ settings_of (line_of l₂) → Err fault ≡ columns_of (line_of l₃) → head_in (left_of l₀) ≡ Refuses 3 fault
+  pub first_refused : (e : Refusal) → Err e ≡ read_at 1 names → head_in (left_of l₀) ≡ Refuses e.line e.fault
   unfolding head_in
-  third_refused settings fault n e k =
-      sym (λ j. with_names ((n ∙ ap names_fault (advanced_line l₀ r₁ l₁ a₁)) j) ((e ∙ ap settings_of second_line) j) ((k ∙ ap columns_of third_line) j))
+  first_refused e h =
+      let r = refused 1 names e h in
+      ap (λ (x : Result (Unit {0}) Fault). with_names x (settings_of (get_or (left_of l₀) 1 [])) (columns_of (get_or (left_of l₀) 2 []))) (names_are (Err e.fault) r.0) ∙ ap (λ k. Refuses k e.fault) r.1
 
-  pub all_read : (settings : Settings) (cols : Columns) → None ≡ names_fault (line_of l₁) → sizes_of (Ok settings) ≡ settings_of (line_of l₂) → Ok cols ≡ columns_of (line_of l₃) → head_in (left_of l₀) ≡ Opens settings.size settings.copies cols
-  unfolding head_in
-  all_read settings cols n e k =
-      sym (λ j. with_names ((n ∙ ap names_fault (advanced_line l₀ r₁ l₁ a₁)) j) ((e ∙ ap settings_of second_line) j) ((k ∙ ap columns_of third_line) j))
+  module _ (l₂ : Lines) (second : Line) (a₂ : TakesLine l₁ second l₂) (u : Unit {0}) (h₁ : Ok u ≡ read_at 1 names) (settings : Result Settings Fault) (s : sizes_of settings ≡ settings_of (line_of second)) where
+    second_line : line_of second ≡ get_or (left_of l₀) 1 []
+    second_line = a₂.line_is ∙ ap (λ ls. get_or ls 0 []) a₁.left_is ∙ get_or-drop 1 (left_of l₀) 0 []
 
-  pub all_counted : (settings : Settings) (cols : Columns) → None ≡ names_fault (line_of l₁) → sizes_of (Ok settings) ≡ settings_of (line_of l₂) → Ok cols ≡ columns_of (line_of l₃) → l₃.number ≡ l₀.number + 3
-  all_counted settings cols n e k =
-      let one = counted names_fault l₀ r₁ l₁ a₁ (λ h. some_none _ (h ∙ sym n)) in
-      let two = counted settings_of l₁ r₂ l₂ a₂ (λ h. err_ok _ _ (h ∙ sym e)) in
-      let three = counted columns_of l₂ r₃ l₃ a₃ (λ h. err_ok _ _ (h ∙ sym k)) in
-      omega arith
+    two_left : left_of l₂ ≡ drop 2 (left_of l₀)
+    two_left = a₂.left_is ∙ ap (drop 1) a₁.left_is ∙ drop-drop 1 1 (left_of l₀)
 
-pub first_refused : (l₀ l₁ : Lines) (r₁ : Bool) (fault : Fault) → Advances l₀ r₁ l₁ → Some fault ≡ names_fault (line_of l₁) → head_in (left_of l₀) ≡ Refuses 1 fault
-unfolding head_in
-first_refused l₀ l₁ r₁ fault a₁ e =
-    sym (λ j. with_names ((e ∙ ap names_fault (advanced_line l₀ r₁ l₁ a₁)) j) (settings_of (get_or (left_of l₀) 1 [])) (columns_of (get_or (left_of l₀) 2 [])))
+    settings_are : (known : Result Settings Fault) → settings ≡ known → settings_of (get_or (left_of l₀) 1 []) ≡ sizes_of known
+    settings_are known is = ap settings_of (sym second_line) ∙ sym s ∙ ap sizes_of is
 
-pub second_refused : (l₀ l₁ l₂ : Lines) (r₁ r₂ : Bool) (fault : Fault) → Advances l₀ r₁ l₁ → Advances l₁ r₂ l₂ → None ≡ names_fault (line_of l₁) → Err fault ≡ settings_of (line_of l₂) → head_in (left_of l₀) ≡ Refuses 2 fault
-unfolding head_in
-second_refused l₀ l₁ l₂ r₁ r₂ fault a₁ a₂ n e =
-    let line : line_of l₂ ≡ get_or (left_of l₀) 1 [] = advanced_line l₁ r₂ l₂ a₂ ∙ ap (λ ls. get_or ls 0 []) (advanced_left l₀ r₁ l₁ a₁) ∙ get_or-drop 1 (left_of l₀) 0 [] in
-    sym (λ j. with_names ((n ∙ ap names_fault (advanced_line l₀ r₁ l₁ a₁)) j) ((e ∙ ap settings_of line) j) (columns_of (get_or (left_of l₀) 2 [])))
+    pub second_refused : (e : Refusal) → Err e ≡ read_at 2 settings → head_in (left_of l₀) ≡ Refuses e.line e.fault
+    unfolding head_in
+    second_refused e h =
+        let r = refused 2 settings e h in
+        (λ j. with_names (names_are (Ok u) (kept 1 names u h₁) j) (settings_are (Err e.fault) r.0 j) (columns_of (get_or (left_of l₀) 2 []))) ∙ ap (λ k. Refuses k e.fault) r.1
+
+    module _ (l₃ : Lines) (third : Line) (a₃ : TakesLine l₂ third l₃) (set : Settings) (h₂ : Ok set ≡ read_at 2 settings) (columns : Result Columns Fault) (k : columns ≡ columns_of (line_of third)) where
+      third_line : line_of third ≡ get_or (left_of l₀) 2 []
+      third_line = a₃.line_is ∙ ap (λ ls. get_or ls 0 []) two_left ∙ get_or-drop 2 (left_of l₀) 0 []
+
+      columns_are : (known : Result Columns Fault) → columns ≡ known → columns_of (get_or (left_of l₀) 2 []) ≡ known
+      columns_are known is = ap columns_of (sym third_line) ∙ sym k ∙ is
+
+      pub third_refused : (e : Refusal) → Err e ≡ read_at 3 columns → head_in (left_of l₀) ≡ Refuses e.line e.fault
+      unfolding head_in
+      third_refused e h =
+          let r = refused 3 columns e h in
+          (λ j. with_names (names_are (Ok u) (kept 1 names u h₁) j) (settings_are (Ok set) (kept 2 settings set h₂) j) (columns_are (Err e.fault) r.0 j)) ∙ ap (λ n. Refuses n e.fault) r.1
+
+      module _ (cols : Columns) (h₃ : Ok cols ≡ read_at 3 columns) where
+        opens : head_in (left_of l₀) ≡ Opens set.size set.copies cols
+        unfolding head_in
+        opens = λ j. with_names (names_are (Ok u) (kept 1 names u h₁) j) (settings_are (Ok set) (kept 2 settings set h₂) j) (columns_are (Ok cols) (kept 3 columns cols h₃) j)
+
+        counted : l₃.number ≡ l₀.number + 3
+        counted =
+            let one = a₁.counted (some names_of _ u (line_of first) refl (sym n ∙ kept 1 names u h₁)) in
+            let two = a₂.counted (some settings_of _ (set.size, set.copies) (line_of second) refl (sym s ∙ ap sizes_of (kept 2 settings set h₂))) in
+            let three = a₃.counted (some columns_of _ cols (line_of third) refl (sym k ∙ kept 3 columns cols h₃)) in
+            omega arith
+
+        pub all_read : (head_in (left_of l₀) ≡ Opens set.size set.copies cols) × (left_of l₃ ≡ drop 3 (left_of l₀)) × (l₃.number ≡ l₀.number + 3)
+        all_read = (opens, a₃.left_is ∙ ap (drop 1) two_left ∙ drop-drop 1 2 (left_of l₀), counted)

@@ -8,9 +8,11 @@ use Rattle.rules.specs.State.{Settings, State, empty}
 use Rattle.rules.specs.Laws.{Laws}
 use Rattle.runs.specs.Orders.{answers_from}
 use Rattle.lines.specs.Texts.{lines_of, sheet_limit}
+use Rattle.lines.specs.Reading.{left_of}
 use Rattle.orders.specs.declared.columns.Columns.{Columns}
 use Rattle.orders.specs.Orders.{read_order}
 use Rattle.answer_lines.specs.AnswerLines.{answer_line}
+use Rattle.sheets.specs.declared.order_lines.OrderLines.{OrderLines}
 use Rattle.sheets.specs.Heads.{Head, Opens, Refuses, head_in}
 
 -- the lines of a sheet, as far as it is read
@@ -45,6 +47,10 @@ answer_lines n (a ∷ as') = answer_line n a ++ answer_lines (n + 1) as'
 -- what is answered to lines of orders by a ring in state s
 abbrev pub orders_text : Settings → State → Columns → ℕ → List (List ℕ) → List ℕ
 orders_text set s cols n ls = answer_lines n (answers_from set s (calls_in cols ls)) ++ end_in cols n ls
+
+-- what a ring in state s still has to answer
+abbrev pub text_left : Settings → State → OrderLines → List ℕ
+text_left set s orders = orders_text set s orders.columns (orders.lines.number + 1) (left_of orders.lines)
 
 -- ---- whole sheets
 

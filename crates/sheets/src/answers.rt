@@ -18,22 +18,22 @@ impl<'s> OrderLines<'s> {
         ring: &mut Ring<'a, S, P>,
         memory: &mut [u8],
     ) -> Result<Option<usize>, Fault>
-        ensures { AnswersOne S.Shelf.meaning S.Holder.room S.Shelf.cells S.Shelf.after S.Holder.frame P.Post.waiting P.Holder.room P.Holder.frame self.old ring.old memory.old result self.new ring.new memory.new }
+        ensures { AnswersOne self.old ring.old memory.old result self.new ring.new memory.new }
     {
         if memory.len() < LEAST_MEMORY {
             return Err(Fault::AnswerMemory);
         }
-        if !self.lines.advance() {
+        let Some(line) = self.lines.next() else {
             return Ok(None);
-        }
-        let answer = match read_order(&self.lines, self.columns) {
+        };
+        let answer = match read_order(line, self.columns) {
             Ok(call) => ring.perform(call),
             Err(fault) => {
                 self.lines.close();
                 Answer::Refused(fault)
             }
         };
-        let n = write_answer(memory, self.lines.number(), answer)?;
+        let n = write_answer(memory, line.number(), answer)?;
         Ok(Some(n))
     }
 }

@@ -1,10 +1,7 @@
 // Whole sheets.
-ghost use Rattle.std.specs.Prelude.{◌≡◌, ◌+◌, ◌≤◌, ◌++◌, length, IfOk, OnOk};
-ghost use Rattle.lines.specs.Reading.{left_of};
+ghost use Rattle.std.specs.Prelude.{◌≡◌, ◌++◌, IfOk, OnOk};
 ghost use Rattle.ring.specs.Views.{viewed, sizes};
-ghost use Rattle.answer_lines.specs.AnswerLines.{least_memory};
-ghost use Rattle.sheets.specs.Sheets.{orders_text, Answered};
-ghost use Rattle.sheets.specs.Answers.{AnswersNext};
+ghost use Rattle.sheets.specs.Sheets.{text_left, Answered};
 
 use crate::heads::{Opening, open};
 use crate::order_lines::OrderLines;
@@ -14,33 +11,17 @@ use messages::Message;
 use ring::Ring;
 use std::alloc::{AllocError, Global};
 
-// Answers the next order in memory that is long enough.
-fn answer_next<'a, S: Shelf, P: Post<Message>>(
-    orders: &mut OrderLines,
-    ring: &mut Ring<'a, S, P>,
-    line: &mut [u8],
-) -> Option<usize>
-    requires { least_memory ≤ length line.old }
-    ensures same { orders.new.columns ≡ orders.old.columns }
-    ensures next { AnswersNext S.Shelf.meaning S.Holder.room S.Shelf.cells S.Shelf.after S.Holder.frame P.Post.waiting P.Holder.room P.Holder.frame orders.old ring.old line.old (left_of orders.old.lines) result orders.new ring.new line.new }
-{
-    match orders.answer(ring, line) {
-        Ok(answered) => answered,
-        Err(_) => None,
-    }
-}
-
-// Answers every order that is left, a line each.
-fn answer_rest<'a, S: Shelf, P: Post<Message>>(
-    orders: &mut OrderLines,
+// Answers every order, a line each. The memory of a line is long enough, so only the sheet's end ends this.
+fn answer_all<'a, S: Shelf, P: Post<Message>>(
+    mut orders: OrderLines,
     ring: &mut Ring<'a, S, P>,
     text: &mut Vec<u8>,
 ) -> Result<(), AllocError>
-    ensures { OnOk result (text.new.items ≡ text.old.items ++ orders_text (sizes S.Holder.room P.Holder.room ring.old) (viewed S.Shelf.meaning P.Post.waiting ring.old) orders.old.columns (orders.old.lines.number + 1) (left_of orders.old.lines)) }
+    ensures { OnOk result (text.new.items ≡ text.old.items ++ text_left (sizes ring.old) (viewed ring.old) orders.entry) }
 {
     let mut line = [0u8; LEAST_MEMORY];
-    while let Some(n) = answer_next(orders, ring, &mut line) {
-        text.extend_from_slice(&line[0..n])?;
+    while let Ok(Some(n)) = orders.answer(ring, &mut line) {
+        text.extend_from_slice(&line[..n])?;
     }
     Ok(())
 }
@@ -59,16 +40,15 @@ pub fn answer_sheet<S: Shelf, P: Post<Message>>(
 {
     let mut text = Vec::from_slice(heap, ANSWER_NAMES)?;
     let mut line = [0u8; LEAST_MEMORY];
-    let (mut orders, opened) = open(sheet, &mut line);
-    let Ok(opening) = opened else {
-        return Ok(text);
+    let Ok(opening) = open(sheet, &mut line) else {
+        unreachable!() // the memory is long enough
     };
     match opening {
-        Opening::Ready(settings) => {
+        Opening::Ready { settings, orders } => {
             let mut ring = Ring::new(settings, shelf, post);
-            answer_rest(&mut orders, &mut ring, &mut text)?;
+            answer_all(orders, &mut ring, &mut text)?;
         }
-        Opening::Closed(n) => text.extend_from_slice(&line[0..n])?,
+        Opening::Closed(n) => text.extend_from_slice(&line[..n])?,
     }
     Ok(text)
 }

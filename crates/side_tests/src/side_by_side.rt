@@ -6,6 +6,7 @@ use log_shelves::LogShelf;
 use messages::Message;
 use rack_posts::RackPost;
 use rack_shelves::RackShelf;
+use racks::Blank;
 use std::process::Abort;
 
 fn stirred(seed: u32) -> u32 {
@@ -30,7 +31,7 @@ fn same_shelves<S: Shelf, T: Shelf>(rt: &impl Abort, left: &mut S, right: &mut T
             0..=3 => {
                 let entry = Entry {
                     stamp: turn,
-                    value: seed as u64,
+                    value: u64::from(seed),
                 };
                 assert_eq!(rt; left.put(at, entry), right.put(at, entry));
             }
@@ -55,7 +56,7 @@ fn same_posts<P: Post<Message>, Q: Post<Message>>(rt: &impl Abort, left: &mut P,
             replica: 2,
             place: 3,
             stamp: turn,
-            value: seed as u64,
+            value: u64::from(seed),
         };
         match seed / 65_536 % 8 {
             0..=3 => assert_eq!(rt; left.put(message), right.put(message)),
@@ -68,15 +69,7 @@ fn same_posts<P: Post<Message>, Q: Post<Message>>(rt: &impl Abort, left: &mut P,
 
 #[test]
 fn a_rack_shelf_and_a_log_shelf(rt: HostRuntime) {
-    let none = CopyRecord {
-        at: Coordinate {
-            peer: 0,
-            replica: 0,
-            place: 0,
-        },
-        held: Entry { stamp: 0, value: 0 },
-    };
-    let mut records = [none; 7];
+    let mut records = [CopyRecord::default(); 7];
     let mut bytes = [9u8; 130];
     let mut left = RackShelf::make(&mut records);
     let mut right = LogShelf::make(&mut bytes);
@@ -86,12 +79,7 @@ fn a_rack_shelf_and_a_log_shelf(rt: HostRuntime) {
 
 #[test]
 fn a_rack_post_and_a_byte_post(rt: HostRuntime) {
-    let mut messages = [Message::GetItem {
-        to: 0,
-        replica: 0,
-        place: 0,
-        question: 0,
-    }; 5];
+    let mut messages = [Message::blank(); 5];
     let mut bytes = [9u8; 115];
     let mut left = RackPost::make(&mut messages);
     let mut right = BytePost::make(&mut bytes);

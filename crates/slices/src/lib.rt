@@ -1,27 +1,43 @@
-// Writing over many places of a slice: a front of one value, and a place closed up.
+// Writing over a part of a slice. A part that does not fit is left as it is.
 #![tactic(auto)]
 
-ghost use Rattle.std.specs.Prelude.{◌≡◌, min, ◌&&◌, ◌∷◌, ◌++◌, length, take, drop, replicate, if◌then◌else◌, nat_le, nat_lt};
-ghost use Rattle.std.specs.List.{remove};
+ghost use Rattle.std.specs.Prelude.{◌≡◌, length, replicate};
+ghost use Rattle.slices.specs.Writes.{written, filled, closed_up};
 
-// Writes `item` over the first `count` places, and leaves the rest.
-pub fn fill_front<T: Copy>(places: &mut [T], count: usize, item: T)
-    ensures { places.new ≡ replicate (min count (length places.old)) item ++ drop (min count (length places.old)) places.old }
+// Writes `items` over the places from `at` on.
+pub fn write<T: Copy>(places: &mut [T], at: usize, items: &[T])
+    ensures { places.new ≡ written places.old at items.now }
 {
-    let front = count.min(places.len());
-    for i in 0..front {
-        places[i] = item;
+    let wide = items.len();
+    if wide <= places.len() && at <= places.len() - wide {
+        places[at..at + wide].copy_from_slice(items);
     }
 }
 
-// Takes place `at` out of the first `used` places: the later ones move down, and `item` fills the place that is freed.
-pub fn close_up<T: Copy>(places: &mut [T], at: usize, used: usize, item: T)
-    ensures { places.new ≡ (if nat_lt at used && nat_le used (length places.old) then remove (take used places.old) at ++ item ∷ drop used places.old else places.old) }
+// Writes `item` from `from` up to `to`.
+pub fn fill<T: Copy>(places: &mut [T], from: usize, to: usize, item: T)
+    ensures { places.new ≡ filled places.old from to item }
 {
-    if at < used && used <= places.len() {
-        for i in at..used - 1 {
-            places[i] = places[i + 1];
-        }
-        places[used - 1] = item;
+    if from <= to && to <= places.len() {
+        cover(&mut places[from..to], item);
+    }
+}
+
+// Takes `width` places at `at` out of those before `end`: the later ones move down, and `item` fills those that are freed.
+pub fn close_up<T: Copy>(places: &mut [T], at: usize, width: usize, end: usize, item: T)
+    ensures { places.new ≡ closed_up places.old at width end item }
+{
+    if end <= places.len() && width <= end && at <= end - width {
+        places.copy_within(at + width..end, at);
+        cover(&mut places[end - width..end], item);
+    }
+}
+
+// The library's `fill` asks that a clone cannot fail, which `Copy` does not say.
+fn cover<T: Copy>(places: &mut [T], item: T)
+    ensures { places.new ≡ replicate (length places.old) item }
+{
+    for place in places.iter_mut() {
+        *place = item;
     }
 }

@@ -1,2 +1,2 @@
+pub mod Members
 pub mod Ties
-pub mod Walks

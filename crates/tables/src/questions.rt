@@ -1,9 +1,12 @@
 // The open questions.
-ghost use Rattle.std.specs.Prelude.{◌≡◌, not, List, [], ◌∷◌, ◌++◌, length, if◌then◌else◌, nat_le};
+ghost use Rattle.std.specs.Prelude.{◌≡◌, List, [], ◌∷◌, ◌++◌, length, if◌then◌else◌, nat_le};
+ghost use Rattle.faults.specs.declared.Fault.TheVariants.{QuestionsOpen};
+ghost use Rattle.faults.specs.Checks.{answered};
 ghost use Rattle.rules.specs.State.{reply_to, with_reply, closed};
 ghost use Rattle.rules.specs.Refusals.{most_open};
 ghost use Rattle.tables.specs.Tables.{questions_of};
 
+use faults::Fault;
 use rosters::Roster;
 use rules::{Question, Reply};
 
@@ -17,10 +20,7 @@ impl Questions {
         ensures { questions_of result ≡ [] }
     {
         Questions {
-            asked: Roster::new(Question {
-                number: 0,
-                reply: Reply::Waiting,
-            }),
+            asked: Roster::new(),
         }
     }
 
@@ -37,13 +37,11 @@ impl Questions {
     }
 
     // What is known of a question, whatever the number.
+    #[tactic(auto, using(crate::proofs::Ties::reply_first))]
     pub fn reply_to(&self, number: u64) -> Option<Reply>
         ensures { result ≡ reply_to (questions_of self.now) number }
     {
-        match self.asked.first(number) {
-            Some(question) => Some(question.reply),
-            None => None,
-        }
+        self.asked.first(number).map(|question| question.reply)
     }
 
     pub fn set_reply(&mut self, number: u32, reply: Reply)
@@ -53,14 +51,15 @@ impl Questions {
             .replace(number as u64, Question { number, reply });
     }
 
-    // One more question at the end, unless as many are open as may be: whether there was room.
-    pub fn push(&mut self, question: Question) -> bool
-        ensures value { result ≡ not (nat_le most_open (length (questions_of self.old))) }
+    // One more question at the end; it is refused where as many are open as may be.
+    pub fn push(&mut self, question: Question) -> Result<(), Fault>
+        ensures value { result ≡ answered ((nat_le most_open (length (questions_of self.old)), QuestionsOpen) ∷ []) tt }
         ensures after { questions_of self.new ≡ (if nat_le most_open (length (questions_of self.old)) then questions_of self.old else questions_of self.old ++ question ∷ []) }
     {
-        self.asked.push(question)
+        self.asked.push(question).map_err(|_| Fault::QuestionsOpen)
     }
 
+    #[tactic(auto, using(crate::proofs::Ties::closed_dropped))]
     pub fn close(&mut self, number: u64)
         ensures { questions_of self.new ≡ closed number (questions_of self.old) }
     {

@@ -1,14 +1,23 @@
 // The table of peers.
 ghost use Rattle.std.specs.Prelude.{◌≡◌, not, List, [], ◌∷◌, ◌++◌, length, if◌then◌else◌, nat_le};
+ghost use Rattle.faults.specs.declared.Fault.TheVariants.{TableFull};
+ghost use Rattle.faults.specs.Checks.{answered};
 ghost use Rattle.circle.specs.Owners.{owner, successor, predecessor};
 ghost use Rattle.rules.specs.State.{members, state_of, with_state, without};
 ghost use Rattle.rules.specs.Refusals.{most_peers, is_empty};
-ghost use Rattle.tables.specs.Tables.{peers_of};
+ghost use Rattle.tables.specs.Tables.{peers_of, member_of};
 
-use crate::searches::{any_member, nearest};
-use arithmetic::{Settings, Way};
+use arithmetic::Settings;
+use faults::Fault;
 use rosters::Roster;
 use rules::{Peer, PeerState};
+
+// A peer as a member: its identifier, unless it is leaving.
+fn member(peer: &Peer) -> Option<u16>
+    ensures { result ≡ member_of peer.now }
+{
+    (peer.state != PeerState::Leaving).then_some(peer.id)
+}
 
 #[derive(Drop)]
 pub struct Table {
@@ -20,10 +29,7 @@ impl Table {
         ensures { peers_of result ≡ [] }
     {
         Table {
-            peers: Roster::new(Peer {
-                id: 0,
-                state: PeerState::Settled,
-            }),
+            peers: Roster::new(),
         }
     }
 
@@ -39,13 +45,11 @@ impl Table {
         self.peers.is_full()
     }
 
+    #[tactic(auto, using(crate::proofs::Ties::state_first))]
     pub fn state_of(&self, id: u16) -> Option<PeerState>
         ensures { result ≡ state_of (peers_of self.now) id }
     {
-        match self.peers.first(id as u64) {
-            Some(peer) => Some(peer.state),
-            None => None,
-        }
+        self.peers.first(id as u64).map(|peer| peer.state)
     }
 
     pub fn set_state(&mut self, id: u16, state: PeerState)
@@ -54,14 +58,15 @@ impl Table {
         self.peers.replace(id as u64, Peer { id, state });
     }
 
-    // One more peer at the end, unless the table is full: whether there was room.
-    pub fn push(&mut self, peer: Peer) -> bool
-        ensures value { result ≡ not (nat_le most_peers (length (peers_of self.old))) }
+    // One more peer at the end; a full table refuses it.
+    pub fn push(&mut self, peer: Peer) -> Result<(), Fault>
+        ensures value { result ≡ answered ((nat_le most_peers (length (peers_of self.old)), TableFull) ∷ []) tt }
         ensures after { peers_of self.new ≡ (if nat_le most_peers (length (peers_of self.old)) then peers_of self.old else peers_of self.old ++ peer ∷ []) }
     {
-        self.peers.push(peer)
+        self.peers.push(peer).map_err(|_| Fault::TableFull)
     }
 
+    #[tactic(auto, using(crate::proofs::Ties::without_dropped))]
     pub fn remove(&mut self, id: u16)
         ensures { peers_of self.new ≡ without id (peers_of self.old) }
     {
@@ -72,27 +77,44 @@ impl Table {
     pub fn has_members(&self) -> bool
         ensures { result ≡ not (is_empty (members (peers_of self.now))) }
     {
-        any_member(self.peers.entries())
+        let mut peers = self.peers.entries().iter();
+        peers.any(|peer| member(peer).is_some())
     }
+
+    // The three searches are those of `Settings`, over the peers: a list of the members first would be a second pass.
 
     // The member that comes first from a place on, clockwise.
     pub fn owner(&self, settings: Settings, place: u16) -> Option<u16>
         ensures { result ≡ owner settings.size (members (peers_of self.now)) place }
     {
-        nearest(self.peers.entries(), settings, Way::From(place), None)
+        self.peers
+            .entries()
+            .iter()
+            .filter_map(member)
+            .min_by_key(|member| settings.distance(place, *member))
     }
 
     // The first other member after a peer.
     pub fn successor(&self, settings: Settings, id: u16) -> Option<u16>
         ensures { result ≡ successor settings.size (members (peers_of self.now)) id }
     {
-        nearest(self.peers.entries(), settings, Way::From(id), Some(id))
+        self.peers
+            .entries()
+            .iter()
+            .filter_map(member)
+            .filter(|after| *after != id)
+            .min_by_key(|after| settings.distance(id, *after))
     }
 
     // The first other member before a peer.
     pub fn predecessor(&self, settings: Settings, id: u16) -> Option<u16>
         ensures { result ≡ predecessor settings.size (members (peers_of self.now)) id }
     {
-        nearest(self.peers.entries(), settings, Way::To(id), Some(id))
+        self.peers
+            .entries()
+            .iter()
+            .filter_map(member)
+            .filter(|before| *before != id)
+            .min_by_key(|before| settings.distance(*before, id))
     }
 }

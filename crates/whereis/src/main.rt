@@ -6,12 +6,13 @@
 // share of the ring. With no words it answers for a worked example.
 #![tactic(auto)]
 
-use anyhow::anyhow;
+use anyhow::bail;
 use arithmetic::Settings;
 use faults::Fault;
 use questions::{Holding, where_held};
-use std::alloc::{AllocError, AllocFailed, Global};
+use std::alloc::{AllocError, Global};
 use std::{env, io};
+use thiserror::Error;
 
 const EXAMPLE: [u64; 8] = [65_536, 4, 40_961, 4_096, 17_000, 30_500, 45_000, 60_000];
 
@@ -23,43 +24,25 @@ struct Query {
     members: Vec<u16>,
 }
 
-// A refusal, or no memory left.
-#[derive(Drop)]
+// Why there is no answer.
+#[derive(Debug, Drop, Error)]
 enum Stop {
-    Refused(Fault),
-    Memory,
-}
-
-impl From<AllocError> for Stop {
-    fn from(_e: AllocError) -> Stop {
-        Stop::Memory
-    }
-}
-
-impl From<Fault> for Stop {
-    fn from(fault: Fault) -> Stop {
-        Stop::Refused(fault)
-    }
-}
-
-impl<T: Drop> From<AllocFailed<T>> for Stop {
-    fn from(_e: AllocFailed<T>) -> Stop {
-        Stop::Memory
-    }
+    #[error("refused by {0}")]
+    Refused(#[from] Fault),
+    #[error("out of memory")]
+    Memory(#[from(alloc)] AllocError),
 }
 
 // The words as numbers; a refusal names the first word that is none, counted from 1.
 fn read_numbers(heap: Global, words: &[String]) -> Result<Vec<u64>, Stop> {
-    let mut numbers = Vec::new(heap);
-    let mut column: u64 = 0;
-    for word in words {
-        column = column.saturating_add(1);
-        match word.parse::<u64>() {
-            Ok(number) => numbers.push(number)?,
-            Err(_) => return Err(Stop::Refused(Fault::Unreadable(column))),
-        }
-    }
-    Ok(numbers)
+    words
+        .iter()
+        .zip(1..=words.len() as u64)
+        .map(|(word, at)| -> Result<u64, Stop> {
+            word.parse()
+                .map_err(|_| Stop::Refused(Fault::Unreadable(at)))
+        })
+        .try_collect(heap)
 }
 
 // What the numbers ask: a size, the copies, an item and then stations.
@@ -68,10 +51,10 @@ fn make_query(heap: Global, numbers: &[u64]) -> Result<Query, Stop> {
         return Err(Stop::Refused(Fault::WrongFields(numbers.len() as u64)));
     };
     let settings = Settings::new(*size, *copies)?;
-    let mut members = Vec::new(heap);
-    for station in stations {
-        members.push(settings.identifier(*station)?)?;
-    }
+    let members = stations
+        .iter()
+        .map(|station| -> Result<u16, Stop> { Ok(settings.identifier(*station)?) })
+        .try_collect(heap)?;
     Ok(Query {
         settings,
         item: *item,
@@ -81,16 +64,12 @@ fn make_query(heap: Global, numbers: &[u64]) -> Result<Query, Stop> {
 
 // A row for each replica of the item.
 fn find_rows(heap: Global, query: &Query) -> Result<Vec<Holding>, Stop> {
-    let mut rows = Vec::new(heap);
-    for replica in 1..=query.settings.copies() {
-        rows.push(where_held(
-            query.settings,
-            query.members.as_slice(),
-            query.item,
-            replica as u64,
-        )?)?;
-    }
-    Ok(rows)
+    let members = query.members.as_slice();
+    (1..=query.settings.copies())
+        .map(|replica| -> Result<Holding, Stop> {
+            Ok(where_held(query.settings, members, query.item, u64::from(replica))?)
+        })
+        .try_collect(heap)
 }
 
 // The rows that the words ask for.
@@ -120,19 +99,12 @@ fn print_rows(rt: &HostRuntime, rows: &[Holding]) -> io::Result<()> {
 }
 
 fn main(rt: HostRuntime) -> anyhow::Result<()> {
-    let mut words = Vec::new(rt.alloc());
-    for word in env::args(&rt)?.skip(1) {
-        words.push(word)?;
-    }
+    let words: Vec<String> = env::args(&rt)?.skip(1).collect(rt.alloc())?;
     match answer(rt.alloc(), words.as_slice()) {
-        Ok(rows) => {
-            print_rows(&rt, rows.as_slice())?;
-            Ok(())
-        }
-        Err(Stop::Memory) => Err(anyhow!("out of memory")),
         Err(Stop::Refused(fault)) => {
             println!(rt; "refused by {fault}")?;
-            Err(anyhow!("refused"))
+            bail!("refused")
         }
+        rows => Ok(print_rows(&rt, rows?.as_slice())?),
     }
 }

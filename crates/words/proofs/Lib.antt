@@ -1,1 +1,3 @@
 pub mod Trips
+pub mod Stds
+pub mod Bytes

@@ -1,6 +1,6 @@
 -- A number comes back from its bytes, and bytes from their number.
-use mathlib.Core.Path.{◌≡◌, ap, ◌∙◌}
-use mathlib.Core.List.{[], ◌∷◌, ◌++◌}
+use mathlib.Core.Path.{◌≡◌}
+use mathlib.Core.List.{[], ◌∷◌}
 use Prim.Native.Nat.{ℕ, ◌/◌, ◌%◌, ◌<◌}
 use native.Mathlib.Omega.{arith}
 use Rattle.words.specs.Words.{two, four, eight, of16, of32, of64}
@@ -24,7 +24,9 @@ pub there32 : (a b c d : ℕ) → b < 256 → c < 256 → d < 256 → four (of32
 there32 a b c d h i j =
     let p : of32 (of16 a b) (of16 c d) / 65536 ≡ of16 a b = omega arith in
     let q : of32 (of16 a b) (of16 c d) % 65536 ≡ of16 c d = omega arith in
-    ap (λ n. two n ++ two (of32 (of16 a b) (of16 c d) % 65536)) p ∙ (ap (λ n. two (of16 a b) ++ two n) q ∙ (ap (λ t. t ++ two (of16 c d)) (there16 a b h) ∙ ap (λ t. a ∷ (b ∷ t)) (there16 c d j)))
+    let e = there16 a b h in
+    let f = there16 c d j in
+    cc
 
 pub there64 : (a b c d e f g k : ℕ) → b < 256 → c < 256 → d < 256 → e < 256 → f < 256 → g < 256 → k < 256 → eight (of64 (of32 (of16 a b) (of16 c d)) (of32 (of16 e f) (of16 g k))) ≡ a ∷ (b ∷ (c ∷ (d ∷ (e ∷ (f ∷ (g ∷ (k ∷ [])))))))
 there64 a b c d e f g k h i j l m n o =
@@ -32,4 +34,6 @@ there64 a b c d e f g k h i j l m n o =
     let low = of32 (of16 e f) (of16 g k) in
     let p : of64 high low / 4294967296 ≡ high = omega arith in
     let q : of64 high low % 4294967296 ≡ low = omega arith in
-    ap (λ x. four x ++ four (of64 high low % 4294967296)) p ∙ (ap (λ x. four high ++ four x) q ∙ (ap (λ t. t ++ four low) (there32 a b c d h i j) ∙ ap (λ t. a ∷ (b ∷ (c ∷ (d ∷ t)))) (there32 e f g k m n o)))
+    let u = there32 a b c d h i j in
+    let v = there32 e f g k m n o in
+    cc

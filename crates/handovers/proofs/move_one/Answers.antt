@@ -1,40 +1,23 @@
-use Rattle.std.proofs.Common.{◌≡◌, true, false, List, sym, ap, ◌∙◌}
+use Rattle.std.proofs.Common.{◌≤◌, length, sym, ◌∙◌, arith}
 use Rattle.std.proofs.lemmas.Bool.{cond-false}
-use Rattle.copies.specs.declared.CopyRecord.{CopyRecord}
-use Rattle.copies.specs.declared.Edit.TheVariants.{Put}
-use Rattle.copies.specs.Copies.{find, put}
-use Rattle.rules.specs.Handover.{newer}
-use Rattle.handovers.proofs.Moving.{goal as goal', cell_again, moved_stays, edits_stays, moved_puts, edits_puts}
+use Rattle.handovers.proofs.Moving.{goal as goal', cell_again, moves_taken, moves_put}
 use Rattle.handovers.proofs.move_one.Goals as goal
 
 pub returns-then-not-is_newer : goal.returns-then-not-is_newer
 returns-then-not-is_newer g c =
-    let x = c.args.filler in
+    let s = c.args.shelf.now in
     let one = c.args.one in
-    let sh = g.S.Shelf.meaning c.args.shelf.now in
-    let cells = g.S.Shelf.cells c.args.shelf.now in
-    let taken = g.S.Shelf.meaning c.take.new.self in
-    let older : newer (find sh (goal' x one)) one.held.stamp ≡ false = ap (λ o. newer o one.held.stamp) (sym c.find-there.ensures.value) ∙ sym c.if-not-is_newer.ensures in
-    let cell = cell_again sh taken one (goal' x one) (g.S.Holder.room c.args.shelf.now) (g.S.Holder.room c.take.new.self) (g.S.Holder.held c.args.shelf.now) c.requires c.take.ensures.after c.find-there.ensures.kept (g.S.Holder.within c.args.shelf.now) c.take.ensures.size in
-    record {
-      after = c.put.ensures.after ∙ cond-false _ _ _ cell ∙ ap (λ (l : List CopyRecord). put l (goal' x one) one.held) c.take.ensures.after ∙ sym (moved_puts g.S.Shelf.after x sh cells one older);
-      cells = c.put.ensures.cells ∙ cond-false _ _ _ cell ∙ ap (λ k. g.S.Shelf.after k (Put (goal' x one) one.held)) c.take.ensures.cells ∙ sym (edits_puts g.S.Shelf.after x sh cells one older);
-      kept = c.put.ensures.kept;
-      size = c.put.ensures.size ∙ c.take.ensures.size;
-      same = c.put.ensures.same ∙ c.take.ensures.same;
-    }
+    let same = c.take.ensures.same in
+    let fits : length (g.S.Shelf.meaning s) ≤ g.S.Holder.room s = omega (arith, g.met.S.Shelf.counted s, g.met.S.Holder.within s) in
+    let cell = cell_again _ _ one (goal' c.args.filler one) _ _ c.requires c.take.ensures.after fits (g.met.S.Holder.sized _ _ same) in
+    moves_put g.S.Shelf g.S.Holder c.args.filler s one c.put.new.self
+    (rw c.find-there.ensures at (sym c.if-not-is_newer.ensures))
+    (rw c.take.ensures.after at (c.put.ensures.after ∙ cond-false _ _ _ cell))
+    (rw c.take.ensures.cells at (c.put.ensures.cells ∙ cond-false _ _ _ cell))
+    (c.put.ensures.same ∙ same)
 
 pub returns-else-not-is_newer : goal.returns-else-not-is_newer
 returns-else-not-is_newer g c =
-    let x = c.args.filler in
-    let one = c.args.one in
-    let sh = g.S.Shelf.meaning c.args.shelf.now in
-    let cells = g.S.Shelf.cells c.args.shelf.now in
-    let later : newer (find sh (goal' x one)) one.held.stamp ≡ true = ap (λ o. newer o one.held.stamp) (sym c.find-there.ensures.value) ∙ sym c.if-not-is_newer.ensures in
-    record {
-      after = c.take.ensures.after ∙ sym (moved_stays g.S.Shelf.after x sh cells one later);
-      cells = c.take.ensures.cells ∙ sym (edits_stays g.S.Shelf.after x sh cells one later);
-      kept = c.take.ensures.kept;
-      size = c.take.ensures.size;
-      same = c.take.ensures.same;
-    }
+    moves_taken g.S.Shelf g.S.Holder c.args.filler c.args.shelf.now c.args.one c.take.new.self
+    (rw c.find-there.ensures at (sym c.if-not-is_newer.ensures))
+    c.take.ensures.after c.take.ensures.cells c.take.ensures.same

@@ -5,4 +5,4 @@ use Rattle.holders.proofs.uses.empty_then_find.Goals as goal
 
 pub returns : goal.returns
 returns g c =
-    c.find.ensures.value ∙ ap (λ m. find m c.args.at) (nothing_kept _ _ _ c.find.ensures.kept refl (omega arith))
+    c.find.ensures ∙ ap (λ m. find m c.args.at) (nothing_kept _ _ _ (g.met.S.Shelf.counted _) refl (omega arith))

@@ -5,4 +5,4 @@ use Rattle.holders.proofs.uses.empty_then_look.Goals as goal
 
 pub returns : goal.returns
 returns g c =
-    c.look.ensures.value ∙ ap (λ m. slice_get m c.args.n) (nothing_kept _ _ _ c.look.ensures.kept refl (omega arith))
+    c.look.ensures ∙ ap (λ m. slice_get m c.args.n) (nothing_kept _ _ _ (g.met.P.Post.counted _) refl (omega arith))

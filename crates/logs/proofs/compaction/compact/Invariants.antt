@@ -1,5 +1,5 @@
 use Rattle.logs.proofs.Moves.{Moved}
 use Rattle.logs.proofs.compaction.compact.Given as goal
 
-abbrev pub invariant-loop-i : goal.invariant-loop-i
-invariant-loop-i l = Moved l.count l.initial.bytes l.bytes l.at l.i l.moved
+abbrev pub invariant-loop-n : goal.invariant-loop-n
+invariant-loop-n l = Moved l.count l.initial.bytes l.bytes l.at l.n l.moved

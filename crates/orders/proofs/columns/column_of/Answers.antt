@@ -1,21 +1,12 @@
-use Rattle.std.proofs.Common.{sym, refl, ap, ◌∙◌}
-use Rattle.std.specs.Str.{bytes_eq}
+use Rattle.std.proofs.Common.{refl, sym, ◌∙◌, rules, tests}
+use Rattle.std.proofs.lemmas.Iterator.{YieldsList-from_range}
+use Rattle.std.proofs.lemmas.Iterator.Adapters.{option_map_id}
+use Rattle.std.proofs.lemmas.Iterator.Search.{find_from_yields_List}
 use Rattle.lines.specs.Reading.{line_of}
-use Rattle.orders.specs.Columns.{has_name, column_of}
-use Rattle.orders.proofs.Searches.{first_here, first_later, first_none}
+use Rattle.orders.specs.Columns.{has_name, first_column}
 use Rattle.orders.proofs.columns.column_of.Goals as goal
 
-pub loop-c-init : goal.loop-c-init
-unfolding column_of
-loop-c-init c = refl
-
-pub returns-then-says : goal.returns-then-says
-returns-then-says c =
-    first_here (has_name (line_of c.args.lines.now) c.args.name.now) 7 c.loop-c.c c.loop-c-test.true (ap (λ t. bytes_eq t c.args.name.now) (sym c.field.ensures.text_is) ∙ (sym c.says.ensures ∙ c.if-says.true)) ∙ c.loop-c.invariant
-
-pub loop-c-preserved : goal.loop-c-preserved
-loop-c-preserved c =
-    first_later (has_name (line_of c.args.lines.now) c.args.name.now) 7 c.loop-c.c c.loop-c-test.true (ap (λ t. bytes_eq t c.args.name.now) (sym c.field.ensures.text_is) ∙ (sym c.says.ensures ∙ c.if-says.false)) ∙ c.loop-c.invariant
-
 pub returns : goal.returns
-returns c = first_none (has_name (line_of c.args.lines.now) c.args.name.now) 7 c.loop-c.c c.loop-c-test.false ∙ c.loop-c.invariant
+unfolding first_column
+returns c =
+    sym (option_map_id c.find.result) ∙ find_from_yields_List (has_name (line_of c.args.line) c.args.name.now) _ _ c.find.result c.find.ensures.ran (YieldsList-from_range 1 7 6 refl refl) (λ x b q k. search (rules, tests))

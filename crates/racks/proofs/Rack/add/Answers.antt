@@ -1,29 +1,19 @@
-use Rattle.std.proofs.Common.{◌<◌, ◌≤◌, min, not, length, sym, refl, ap, arith, rules}
-use Rattle.racks.proofs.Cuts.{size_cut, full_cut, not_full_cut, cut_added, cut_not_added}
+use Rattle.std.proofs.Common.{◌<◌, min, length, ap, ◌∙◌, arith, ◌+◌}
+use Rattle.racks.specs.Parts.{added}
+use Rattle.racks.specs.Racks.{parts_of}
+use Rattle.racks.proofs.Cuts.{size_cut, not_full_cut, cut_added}
+use Rattle.racks.proofs.Stays.{stays_added, length_added, sound_after}
 use Rattle.racks.proofs.Rack.add.Goals as goal
 
-pub offset_bounds-self-self : goal.offset_bounds-self-self
-offset_bounds-self-self g c =
+pub invariant_of-self : goal.invariant_of-self
+invariant_of-self g c =
     let s = c.args.self.now in
-    let n = size_cut s.records.now s.largest s.count in
-    search rules
-
-pub bounds-self-self : goal.bounds-self-self
-bounds-self-self g c =
-    let s = c.args.self.now in
-    let n = size_cut s.records.now s.largest s.count in
-    omega arith
-
-pub returns-then-self-size : goal.returns-then-self-size
-returns-then-self-size g c =
-    let s = c.args.self.now in
-    let n = size_cut s.records.now s.largest s.count in
-    let room : s.count < min (length s.records.now) s.largest = omega arith in
-    record { value = ap not (sym (not_full_cut s.records.now s.largest s.count room)); after = cut_added s.records.now s.largest s.count c.args.item room; same = refl {a = s.records.ghost_name} }
-
-pub returns-else-self-size : goal.returns-else-self-size
-returns-else-self-size g c =
-    let s = c.args.self.now in
-    let n = size_cut s.records.now s.largest s.count in
-    let none : min (length s.records.now) s.largest ≤ s.count = omega arith in
-    record { value = ap not (sym (full_cut s.records.now s.largest s.count none)); after = cut_not_added s.records.now s.largest s.count c.args.item none; same = refl {a = s.records.ghost_name} }
+    let a = s.records.ghost_name in
+    let m = s.records.now in
+    let most = g.row.MOST in
+    let item = c.args.item in
+    let p = parts_of s in
+    let size = size_cut a m most s.count in
+    let room : s.count < min (length m) most = omega arith in
+    let blank = g.T.Blank.nothing in
+    record { sound = sound_after blank most s.count (s.count + 1) p _ (added p item) s.sound (stays_added blank p item) (cut_added a m most s.count item room) (length_added p item (not_full_cut a m most s.count room) ∙ ap (λ n. n + 1) s.sound.counted) }

@@ -1,27 +1,21 @@
-use Rattle.std.proofs.Common.{refl, arith, rules}
-use Rattle.racks.proofs.Cuts.{length_used, cut_overwritten, cut_not_overwritten}
+use Rattle.std.proofs.Common.{◌∙◌}
+use Rattle.std.proofs.lemmas.List.{length-set}
+use Rattle.racks.specs.Parts.{overwritten}
+use Rattle.racks.specs.Racks.{parts_of}
+use Rattle.racks.proofs.Cuts.{cut_overwritten}
+use Rattle.racks.proofs.Stays.{stays_overwritten, sound_after}
 use Rattle.racks.proofs.Rack.overwrite.Goals as goal
 
-pub offset_bounds-self-n : goal.offset_bounds-self-n
-offset_bounds-self-n g c =
+pub invariant_of-self : goal.invariant_of-self
+invariant_of-self g c =
     let s = c.args.self.now in
-    let n = length_used s.records.now s.largest s.count in
-    search rules
+    let p = parts_of s in
+    let n = c.args.n in
+    let item = c.args.item in
+    let over = cut_overwritten s.records.ghost_name s.records.now g.row.MOST s.count n item c.if-n-self.true s.sound.counted in
+    record { sound = sound_after g.T.Blank.nothing g.row.MOST s.count s.count p _ (overwritten p n item) s.sound (stays_overwritten g.T.Blank.nothing p n item) over (length-set p.used n item ∙ s.sound.counted) }
 
-pub bounds-self-n : goal.bounds-self-n
-bounds-self-n g c =
+pub returns-then-n-self : goal.returns-then-n-self
+returns-then-n-self g c =
     let s = c.args.self.now in
-    let n = length_used s.records.now s.largest s.count in
-    omega arith
-
-pub returns-then-n-used : goal.returns-then-n-used
-returns-then-n-used g c =
-    let s = c.args.self.now in
-    let n = length_used s.records.now s.largest s.count in
-    record { after = cut_overwritten s.records.now s.largest s.count c.args.n c.args.item (omega arith); same = refl {a = s.records.ghost_name} }
-
-pub returns-else-n-used : goal.returns-else-n-used
-returns-else-n-used g c =
-    let s = c.args.self.now in
-    let n = length_used s.records.now s.largest s.count in
-    record { after = cut_not_overwritten s.records.now s.largest s.count c.args.n c.args.item (omega arith); same = refl {a = s.records.ghost_name} }
+    cut_overwritten s.records.ghost_name s.records.now g.row.MOST s.count c.args.n c.args.item c.if-n-self.true s.sound.counted

@@ -1,24 +1,21 @@
-use Rattle.std.proofs.Common.{◌≡◌, ◌-◌, true, ◌&&◌, ltb, leb, length, refl, ap, ◌∙◌, arith}
-use Rattle.racks.proofs.Cuts.{length_used, cut_closed, cut_not_closed}
-use Rattle.std.proofs.lemmas.Bool.{cond-true, and_from, lt-ltb, le-leb}
-use Rattle.racks.specs.Parts.{cut, closed_up}
+use Rattle.std.proofs.Common.{◌-◌, sym, ap, ◌∙◌, arith}
+use Rattle.racks.specs.Parts.{closed_up}
+use Rattle.racks.specs.Racks.{parts_of}
+use Rattle.racks.proofs.Cuts.{cut_removed}
+use Rattle.racks.proofs.Stays.{stays_closed_up, length_closed_up, sound_after}
 use Rattle.racks.proofs.Rack.remove.Goals as goal
 
-pub returns-then-n-used : goal.returns-then-n-used
-returns-then-n-used g c =
+pub invariant_of-self : goal.invariant_of-self
+invariant_of-self g c =
     let s = c.args.self.now in
-    let n = length_used s.records.now s.largest s.count in
-    let m = s.records.now in
-    let used = c.used-used.result in
-    let test : (ltb c.args.n used && leb used (length m)) ≡ true = and_from (ltb c.args.n used) (leb used (length m)) (lt-ltb c.args.n used c.if-n-used.true) (le-leb used (length m) (omega arith)) in
-    record {
-      value = c.get-item.ensures;
-      after = ap (λ t. cut t s.largest (used - 1)) (c.close_up.ensures ∙ cond-true (ltb c.args.n used && leb used (length m)) _ m test) ∙ (cut_closed m s.largest s.count c.args.n used c.blank.result (omega arith) c.if-n-used.true ∙ ap (λ b. closed_up b (cut m s.largest s.count) c.args.n) c.blank.ensures);
-      same = refl {a = s.records.ghost_name};
-    }
+    let p = parts_of s in
+    let n = c.args.n in
+    let blank = g.T.Blank.nothing in
+    let gone = cut_removed s.records.ghost_name s.records.now c.close_up.new.places g.row.MOST s.count n blank c.blank.result c.in_ok-item.item s.sound.counted (sym c.get.ensures ∙ c.in_ok-item.was) c.close_up.ensures c.blank.ensures in
+    let fewer = length_closed_up blank p n (omega (arith, gone.0, s.sound.counted)) in
+    record { sound = sound_after blank g.row.MOST s.count (s.count - 1) p _ (closed_up blank p n) s.sound (stays_closed_up blank p n) gone.1 (fewer ∙ ap (λ k. k - 1) s.sound.counted) }
 
-pub returns-else-n-used : goal.returns-else-n-used
-returns-else-n-used g c =
+pub returns-clause-after : goal.returns-clause-after
+returns-clause-after g c =
     let s = c.args.self.now in
-    let n = length_used s.records.now s.largest s.count in
-    record { value = c.get-item.ensures; after = cut_not_closed s.records.now s.largest s.count c.args.n _ (omega arith); same = refl {a = s.records.ghost_name} }
+    (cut_removed s.records.ghost_name s.records.now c.close_up.new.places g.row.MOST s.count c.args.n g.T.Blank.nothing c.blank.result c.in_ok-item.item s.sound.counted (sym c.get.ensures ∙ c.in_ok-item.was) c.close_up.ensures c.blank.ensures).1

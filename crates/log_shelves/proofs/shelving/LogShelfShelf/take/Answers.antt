@@ -1,54 +1,26 @@
-use Rattle.std.proofs.Common.{refl}
-use Rattle.rows.proofs.Grounds.{ground_stays}
+use Rattle.std.proofs.Common.{sym, ◌∙◌}
 use Rattle.log_shelves.specs.Held.{held_in}
-use Rattle.log_shelves.proofs.Changes.{tested, found_is, some_counted, take_some, take_nothing}
+use Rattle.log_shelves.proofs.Changes.{some_counted, take_some, take_nothing}
 use Rattle.log_shelves.proofs.shelving.LogShelfShelf.take.Goals as goal
+
+pub returns-in_err-entry : goal.returns-in_err-entry
+returns-in_err-entry c =
+    let s = c.args.self.now in
+    let done = take_nothing (held_in s.tray) c.args.at s.kept s.counted (sym c.find.ensures ∙ c.in_err-entry.was) in
+    record { value = c.from_residual.ensures ∙ (sym c.in_err-entry.was ∙ c.find.ensures); after = done.after; cells = done.cells; same = done.same }
 
 pub overflow_sub-self : goal.overflow_sub-self
 overflow_sub-self c =
     let s = c.args.self.now in
-    let h = held_in s.tray in
-    let there = tested h c.args.at c.find-entry.result c.is_some.result _ s.inside c.find-entry.ensures c.is_some.ensures c.if-is_some.true in
-    some_counted h c.args.at s.kept s.counted there
+    some_counted (held_in s.tray).items c.args.at c.in_ok-entry.entry s.kept s.counted (sym c.find.ensures ∙ c.in_ok-entry.was)
 
 pub invariant_of-self : goal.invariant_of-self
 invariant_of-self c =
     let s = c.args.self.now in
-    let h = held_in s.tray in
-    let there = tested h c.args.at c.find-entry.result c.is_some.result _ s.inside c.find-entry.ensures c.is_some.ensures c.if-is_some.true in
-    let done = take_some h (held_in c.lose.new.self) c.args.at s.kept s.tidy s.inside s.counted there c.lose.ensures.after in
-    record {
-      tidy = done.stays.1.tidy;
-      inside = done.stays.1.inside;
-      counted = done.kept;
-    }
+    record { counted = (take_some (held_in s.tray) (held_in c.lose.new.records) c.args.at c.in_ok-entry.entry s.kept s.counted (sym c.find.ensures ∙ c.in_ok-entry.was) c.lose.ensures).kept }
 
-pub returns-then-is_some : goal.returns-then-is_some
-returns-then-is_some c =
+pub returns : goal.returns
+returns c =
     let s = c.args.self.now in
-    let h = held_in s.tray in
-    let there = tested h c.args.at c.find-entry.result c.is_some.result _ s.inside c.find-entry.ensures c.is_some.ensures c.if-is_some.true in
-    let done = take_some h (held_in c.lose.new.self) c.args.at s.kept s.tidy s.inside s.counted there c.lose.ensures.after in
-    record {
-      value = found_is h c.args.at c.find-entry.result s.inside c.find-entry.ensures;
-      after = done.after;
-      cells = done.cells;
-      kept = done.kept;
-      size = done.stays.1.size;
-      same = ground_stays _ _ _ _ c.lose.ensures.same done.stays.1.beyond;
-    }
-
-pub returns-else-is_some : goal.returns-else-is_some
-returns-else-is_some c =
-    let s = c.args.self.now in
-    let h = held_in s.tray in
-    let absent = tested h c.args.at c.find-entry.result c.is_some.result _ s.inside c.find-entry.ensures c.is_some.ensures c.if-is_some.false in
-    let done = take_nothing h c.args.at s.kept s.tidy s.inside s.counted absent in
-    record {
-      value = found_is h c.args.at c.find-entry.result s.inside c.find-entry.ensures;
-      after = done.after;
-      cells = done.cells;
-      kept = done.kept;
-      size = refl;
-      same = refl;
-    }
+    let done = take_some (held_in s.tray) (held_in c.lose.new.records) c.args.at c.in_ok-entry.entry s.kept s.counted (sym c.find.ensures ∙ c.in_ok-entry.was) c.lose.ensures in
+    record { value = sym c.in_ok-entry.was ∙ c.find.ensures; after = done.after; cells = done.cells; same = done.same }

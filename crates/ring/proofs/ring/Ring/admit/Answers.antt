@@ -1,34 +1,25 @@
-use Rattle.std.proofs.Common.{ℕ, List, [], ◌∷◌, ◌++◌, sym, refl, ap, ◌∙◌}
+use Rattle.std.proofs.Common.{List, ◌∷◌, ◌++◌, sym, refl, ap, ◌∙◌, []}
 use Rattle.std.proofs.lemmas.Bool.{cond-false}
 use Rattle.circle.specs.Owners.{predecessor, successor}
 use Rattle.rules.specs.declared.Peer.{Peer}
 use Rattle.rules.specs.declared.PeerState.TheVariants.{Filling, Giving}
 use Rattle.rules.specs.State.{members, peer, with_table, with_post}
 use Rattle.ring.specs.Views.{viewed, sizes}
+use Rattle.ring.proofs.Performing.{leads_within, leads_posting}
 use Rattle.ring.proofs.Memberships.{both_some, join_alone, join_between, join_room, join_place, with_state_length}
 use Rattle.ring.proofs.ring.Ring.admit.Goals as goal
 
 pub returns-in-None : goal.returns-in-None
 returns-in-None g c =
-    let r = c.args.self.now in
-    let set = sizes g.S.Holder.room g.P.Holder.room r in
-    let s = viewed g.S.Shelf.meaning g.P.Post.waiting r in
+    let set = sizes c.args.self.now in
+    let s = viewed c.args.self.now in
     let room = join_room set s c.args.id c.requires in
-    record {
-      became = ap (λ (t : List Peer). with_table t s) (c.push.ensures.after ∙ cond-false _ _ _ room) ∙ sym (join_alone set s c.args.id c.in-None.ensures);
-      remembers = refl;
-      same_sizes = refl;
-      framed = refl;
-      backed = refl;
-      shelf_lent = refl;
-      post_lent = refl;
-    }
+    leads_within _ _ _ (ap (λ (t : List Peer). with_table t s) (c.push.ensures.after ∙ cond-false _ _ _ room) ∙ sym (join_alone set s c.args.id c.in-None.ensures)) refl refl refl
 
 pub returns-in-Some : goal.returns-in-Some
 returns-in-Some g c =
-    let r = c.args.self.now in
-    let set = sizes g.S.Holder.room g.P.Holder.room r in
-    let s = viewed g.S.Shelf.meaning g.P.Post.waiting r in
+    let set = sizes c.args.self.now in
+    let s = viewed c.args.self.now in
     let p = c.args.id in
     let a = c.in-Some.start in
     let x = c.in-Some.giver in
@@ -38,12 +29,4 @@ returns-in-Some g c =
     let place = join_place set s p c.requires x next in
     let table = c.push-in-Some.ensures.after ∙ cond-false _ _ _ room ∙ ap (λ (t : List Peer). t ++ peer p (Filling x a p) ∷ []) c.set_state.ensures in
     let post = c.put.ensures.after ∙ cond-false _ _ _ place in
-    record {
-      became = (λ j. with_post (post j) (with_table (table j) s)) ∙ sym (join_between set s p a x between);
-      remembers = refl;
-      same_sizes = ap (λ (n : ℕ). record { size = set.size; copies = set.copies; cells = set.cells; slots = n }) c.put.ensures.size;
-      framed = refl;
-      backed = c.put.ensures.same;
-      shelf_lent = refl;
-      post_lent = refl;
-    }
+    leads_posting _ _ _ ((λ j. with_post (post j) (with_table (table j) s)) ∙ sym (join_between set s p a x between)) refl refl c.put.ensures.same refl

@@ -5,35 +5,27 @@ use Rattle.rules.specs.State.{owner_else, question, with_post, with_questions}
 use Rattle.rules.specs.declared.Reply.TheVariants.{Waiting}
 use Rattle.rules.specs.Rules.{opened}
 use Rattle.ring.specs.Views.{viewed, sizes}
+use Rattle.ring.proofs.Performing.{leads_posting}
 use Rattle.ring.proofs.Itemings.{lookup_accepted}
 use Rattle.ring.proofs.ring.Ring.ask.Goals as goal
 
 pub overflow_add-self : goal.overflow_add-self
 overflow_add-self g c =
     let r = c.args.self.now in
-    let set = sizes g.S.Holder.room g.P.Holder.room r in
-    let s = viewed g.S.Shelf.meaning g.P.Post.waiting r in
-    let unspent = (lookup_accepted set s c.args.item c.args.replica c.requires).unspent in
+    let unspent = (lookup_accepted (sizes r) (viewed r) c.args.item c.args.replica c.requires).unspent in
     omega arith
 
 pub returns : goal.returns
 unfolding opened
 returns g c =
-    let r = c.args.self.now in
-    let set = sizes g.S.Holder.room g.P.Holder.room r in
-    let s = viewed g.S.Shelf.meaning g.P.Post.waiting r in
+    let set = sizes c.args.self.now in
+    let s = viewed c.args.self.now in
     let told = lookup_accepted set s c.args.item c.args.replica c.requires in
     let place = c.place_of-place.ensures in
-    let to = c.owner_of-to.ensures ∙ ap (λ (i : ℕ). owner_else set s.table i i) place in
+    let to = c.owner_or-to.ensures ∙ ap (λ (i : ℕ). owner_else set s.table i i) place in
     let questions = c.push.ensures.after ∙ cond-false _ _ _ told.more_open in
     let post = c.put.ensures.after ∙ cond-false _ _ _ told.place in
     let open-now = s.questions ++ question s.number Waiting ∷ [] in
-    record {
-      became = (λ j. with_post (post j) (with_questions (s.number + 1) (questions j) s)) ∙ (λ j. with_post (s.post ++ GetItem (to j) c.args.replica (place j) s.number ∷ []) (with_questions (s.number + 1) open-now s));
-      remembers = refl;
-      same_sizes = ap (λ (n : ℕ). record { size = set.size; copies = set.copies; cells = set.cells; slots = n }) c.put.ensures.size;
-      framed = refl;
-      backed = c.put.ensures.same;
-      shelf_lent = refl;
-      post_lent = refl;
-    }
+    leads_posting _ _ _
+    ((λ j. with_post (post j) (with_questions (s.number + 1) (questions j) s)) ∙ (λ j. with_post (s.post ++ GetItem (to j) c.args.replica (place j) s.number ∷ []) (with_questions (s.number + 1) open-now s)))
+    refl refl c.put.ensures.same refl

@@ -1,37 +1,21 @@
-use Rattle.std.proofs.Common.{[], sym, refl, arith}
+use Rattle.std.proofs.Common.{ℕ, refl}
 use Rattle.rules.specs.declared.Call.TheVariants.{Lookup}
 use Rattle.rules.specs.declared.Answer.TheVariants.{Opened}
+use Rattle.rules.specs.Refusals.{lookup_checks}
 use Rattle.rules.specs.Rules.{opened}
 use Rattle.ring.specs.Views.{viewed, sizes}
-use Rattle.ring.proofs.Performing.{performs_refused, performs_accepted}
-use Rattle.ring.proofs.Itemings.{lookup_accepted}
+use Rattle.ring.proofs.Performing.{passes, refused_call, accepted_call}
 use Rattle.ring.proofs.ring.Ring.lookup.Goals as goal
 
-pub returns-in-Some : goal.returns-in-Some
-returns-in-Some g c =
-    performs_refused g.S.Shelf.meaning g.S.Holder.room g.S.Shelf.cells g.S.Shelf.after g.S.Holder.frame g.P.Post.waiting g.P.Holder.room g.P.Holder.frame (Lookup c.args.item c.args.replica) c.args.self.now c.in-Some.fault (sym c.in-Some.ensures)
-
-pub returns : goal.returns
-returns g c =
+pub ask-requires : goal.ask-requires
+ask-requires g c =
     let r = c.args.self.now in
-    let set = sizes g.S.Holder.room g.P.Holder.room r in
-    let s = viewed g.S.Shelf.meaning g.P.Post.waiting r in
-    performs_accepted g.S.Shelf.meaning g.S.Holder.room g.S.Shelf.cells g.S.Shelf.after g.S.Holder.frame g.P.Post.waiting g.P.Holder.room g.P.Holder.frame (Lookup c.args.item c.args.replica) r c.ask.new.self (Opened r.number) (opened set s c.args.item c.args.replica) [] (sym c.in_default.ensures) refl refl c.ask.ensures
+    passes (λ (n : ℕ × ℕ). lookup_checks (sizes r) (viewed r) n.0 n.1) (c.args.item, c.args.replica) (c.in-Ok.item, c.in-Ok.replica) c.in-Ok.ensures
 
-pub overflow_cast-item : goal.overflow_cast-item
-overflow_cast-item g c =
-    let r = c.args.self.now in
-    let set = sizes g.S.Holder.room g.P.Holder.room r in
-    let s = viewed g.S.Shelf.meaning g.P.Post.waiting r in
-    let below = (lookup_accepted set s c.args.item c.args.replica (sym c.in_default.ensures)).below in
-    let bounded = r.settings.bounded in
-    omega arith
+pub returns-in-Err : goal.returns-in-Err
+returns-in-Err g c = refused_call (Lookup c.args.item c.args.replica) c.args.self.now (c.args.item, c.args.replica) c.in-Err.fault c.in-Err.ensures
 
-pub overflow_cast-replica : goal.overflow_cast-replica
-overflow_cast-replica g c =
+pub returns-in-Ok : goal.returns-in-Ok
+returns-in-Ok g c =
     let r = c.args.self.now in
-    let set = sizes g.S.Holder.room g.P.Holder.room r in
-    let s = viewed g.S.Shelf.meaning g.P.Post.waiting r in
-    let few = (lookup_accepted set s c.args.item c.args.replica (sym c.in_default.ensures)).is_in_range in
-    let bounded = r.settings.few in
-    omega arith
+    accepted_call (Lookup c.args.item c.args.replica) r c.ask.new.self (Opened r.number) (c.args.item, c.args.replica) (c.in-Ok.item, c.in-Ok.replica) (λ (n : ℕ × ℕ). opened (sizes r) (viewed r) n.0 n.1) c.in-Ok.ensures refl refl c.ask.ensures

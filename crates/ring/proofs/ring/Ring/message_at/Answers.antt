@@ -4,31 +4,19 @@ use Rattle.ring.specs.Views.{viewed, sizes}
 use Rattle.ring.proofs.Delivering.{nothing_there, message_there}
 use Rattle.ring.proofs.ring.Ring.message_at.Goals as goal
 
-pub returns-in-None : goal.returns-in-None
-returns-in-None g c =
+pub returns-in_default : goal.returns-in_default
+returns-in_default g c =
     let r = c.args.self.now in
-    let set = sizes g.S.Holder.room g.P.Holder.room r in
-    let s = viewed g.S.Shelf.meaning g.P.Post.waiting r in
-    record { value = nothing_there set s c.args.n (sym c.in-None.ensures.value); kept = c.look.ensures.kept }
+    nothing_there (sizes r) (viewed r) c.args.n (sym c.in_default.ensures)
 
 pub returns-then-is_cramped : goal.returns-then-is_cramped
 returns-then-is_cramped g c =
     let r = c.args.self.now in
-    let set = sizes g.S.Holder.room g.P.Holder.room r in
-    let s = viewed g.S.Shelf.meaning g.P.Post.waiting r in
-    let left = c.saturating_sub.ensures ∙ (λ j. c.size.ensures j - c.count.ensures.value j) in
-    record {
-      value = message_there set s c.args.n c.in-Some.message true (sym c.in-Some.ensures.value) (sym c.if-is_cramped.ensures) ∙ ap (λ (x : ℕ). Some (ShelfFull x)) (sym left);
-      kept = c.look.ensures.kept;
-    }
+    let left = c.room_left.ensures ∙ ap (λ (n : ℕ). g.S.Holder.room r.shelf.now - n) (r.shelf_counted r.shelf.now) in
+    message_there (sizes r) (viewed r) c.args.n c.in-Some.message true (sym c.in-Some.ensures) (sym c.if-is_cramped.ensures) ∙ ap (λ (x : ℕ). Some (ShelfFull x)) (sym left)
 
-pub returns-else-is_cramped : goal.returns-else-is_cramped
-returns-else-is_cramped g c =
+pub returns : goal.returns
+returns g c =
     let r = c.args.self.now in
-    let set = sizes g.S.Holder.room g.P.Holder.room r in
-    let s = viewed g.S.Shelf.meaning g.P.Post.waiting r in
-    let there = sym c.in-Some.ensures.value in
-    record {
-      value = (message_there set s c.args.n c.in-Some.message false there (sym c.if-is_cramped.ensures), there);
-      kept = c.look.ensures.kept;
-    }
+    let there = sym c.in-Some.ensures in
+    (message_there (sizes r) (viewed r) c.args.n c.in-Some.message false there (sym c.if-is_cramped.ensures), there)

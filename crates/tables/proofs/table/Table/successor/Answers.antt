@@ -1,12 +1,14 @@
-use Rattle.std.proofs.Common.{ℕ, Some, None, ap, ◌∙◌}
-use Rattle.circle.specs.Owners.{successor, least_from}
+use Rattle.std.proofs.Common.{rules, tests}
+use Rattle.std.proofs.lemmas.Iterator.{YieldsList-from_slice}
 use Rattle.circle.specs.Circle.{distance}
-use Rattle.tables.specs.Tables.{candidates, peers_of}
-use Rattle.tables.proofs.Ties.{candidates_others}
+use Rattle.circle.specs.Owners.{successor}
+use Rattle.arithmetic.proofs.Nearest.{nearest_is}
+use Rattle.tables.specs.Tables.{peers_of}
+use Rattle.tables.proofs.Members.{members_in, others_in}
 use Rattle.tables.proofs.table.Table.successor.Goals as goal
 
 pub returns : goal.returns
 unfolding successor
 returns c =
-    let far : ℕ → ℕ = distance c.args.settings.size c.args.id in
-    c.nearest.ensures ∙ (ap (λ ps. least_from far None (candidates (Some c.args.id) ps)) c.entries.ensures ∙ ap (least_from far None) (candidates_others c.args.id (peers_of c.args.self.now)))
+    nearest_is _ (distance c.args.settings.size c.args.id) _ (λ x k q h. search rules) c.min_by_key.result c.min_by_key.ensures.ran
+    (others_in _ c.args.id c.filter.ensures.source (members_in _ c.filter_map.ensures.source (YieldsList-from_slice (peers_of c.args.self.now) (cc)) c.filter_map.ensures.closure (λ x r q k. search (rules, tests))) c.filter.ensures.closure (λ x r q k. search (rules, tests)))
