@@ -1,6 +1,6 @@
 -- What a put and a take make of the records, the meaning and the count.
 use Rattle.std.proofs.Common.{◌≡◌, ℕ, ◌+◌, ◌-◌, ◌<◌, ◌≤◌, true, false, cond, not, ◌&&◌, ltb, leb, List, [], ◌∷◌, ◌++◌, length, is_some, Some, None, Ok, Err, Option, Result, sym, refl, ap, ◌∙◌, ⊎_elim, arith}
-use Rattle.std.proofs.lemmas.Bool.{cond-true, cond-false, cond_both, lt-ltb, lt-leb, le-leb, leb-false, both_ways}
+use Rattle.std.proofs.lemmas.Bool.{cond-true, cond-false, cond_both, lt-ltb, ltb-true, lt-leb, le-leb, leb-false, both_ways}
 use Rattle.faults.specs.declared.Fault.{Fault}
 use Rattle.faults.specs.declared.Fault.TheVariants.{ShelfFull}
 use Rattle.copies.specs.declared.Edit.TheVariants.{Put, Take}
@@ -14,7 +14,7 @@ use Rattle.rows.specs.Trays.{Held, holding}
 use Rattle.logs.specs.declared.lines.Line.{Line}
 use Rattle.logs.specs.Logs.{kept, gone, squeezed, copies_of, meaning_of}
 use Rattle.logs.proofs.Meanings.{meaning_kept, meaning_gone, meaning_squeezed, meaning_squeezed_kept, meaning_within, length_squeezed}
-use Rattle.log_shelves.specs.Cells.{cells_of, roomy, after_put, without, edited}
+use Rattle.log_shelves.specs.Cells.{cells_of, roomy, keeping, after_put, without, edited}
 
 -- a record is free once the others have moved, unless the shelf is full
 pub free_for : (xs : List Line) (size : ℕ) (c : Coordinate) → length xs ≤ size → no_cell (meaning_of xs) size c ≡ false → ltb (length (roomy size c xs)) size ≡ true
@@ -54,12 +54,18 @@ pub record PutAnswer (h g : Held Line) (c : Coordinate) (e : Entry) (n : ℕ) (r
   pub same : g.ground ≡ h.ground
   pub kept : n ≡ length (meaning_of g.items)
 
--- what `keep` leaves, when it is told that a record is free
-accepted : (h g : Held Line) (c : Coordinate) (e : Entry) (n : ℕ) → length h.items ≤ h.ground.size → no_cell (meaning_of h.items) h.ground.size c ≡ false → n ≡ length (put (meaning_of h.items) c e) → (ltb (length (roomy h.ground.size c h.items)) h.ground.size ≡ true → g ≡ holding h (after_put h.ground.size c e h.items)) → PutAnswer h g c e n (Ok tt)
+-- what `keep` leaves, where a record is free
+kept_free : (h : Held Line) (c : Coordinate) (e : Entry) → ltb (length (roomy h.ground.size c h.items)) h.ground.size ≡ true → keeping h c e ≡ holding h (after_put h.ground.size c e h.items)
+kept_free h c e free =
+    let xs = roomy h.ground.size c h.items in
+    let pushed = xs ++ kept c e ∷ [] in
+    cond-false (leb h.ground.size (length xs)) (holding h xs) (holding h pushed) (lt-leb h.ground.size (length xs) (ltb-true (length xs) h.ground.size free)) ∙ ap (holding h) (sym (cond-true (ltb (length xs) h.ground.size) pushed h.items free))
+
+accepted : (h g : Held Line) (c : Coordinate) (e : Entry) (n : ℕ) → length h.items ≤ h.ground.size → no_cell (meaning_of h.items) h.ground.size c ≡ false → n ≡ length (put (meaning_of h.items) c e) → g ≡ keeping h c e → PutAnswer h g c e n (Ok tt)
 accepted h g c e n le ok l k =
     let b = no_cell (meaning_of h.items) h.ground.size c in
     let free = free_for h.items h.ground.size c le ok in
-    let is = k free in
+    let is = k ∙ kept_free h c e free in
     let after : meaning_of g.items ≡ put (meaning_of h.items) c e = ap (λ t. meaning_of t.items) is ∙ meaning_put h.items h.ground.size c e free in
     record {
       value = sym (cond-false b _ _ ok);
@@ -69,13 +75,13 @@ accepted h g c e n le ok l k =
       kept = l ∙ ap length (sym after);
     }
 
-pub put_over : (h g : Held Line) (c : Coordinate) (e : Entry) (n : ℕ) → length h.items ≤ h.ground.size → n ≡ length (meaning_of h.items) → is_some (find (meaning_of h.items) c) ≡ true → (ltb (length (roomy h.ground.size c h.items)) h.ground.size ≡ true → g ≡ holding h (after_put h.ground.size c e h.items)) → PutAnswer h g c e n (Ok tt)
+pub put_over : (h g : Held Line) (c : Coordinate) (e : Entry) (n : ℕ) → length h.items ≤ h.ground.size → n ≡ length (meaning_of h.items) → is_some (find (meaning_of h.items) c) ≡ true → g ≡ keeping h c e → PutAnswer h g c e n (Ok tt)
 put_over h g c e n le l there k =
     let m = meaning_of h.items in
     let s = some_from (find m c) there in
     accepted h g c e n le (ap (λ b. not b && leb h.ground.size (length m)) there) (l ∙ sym (length_put_present m c e s.0 (ordered_from_records (copies_of h.items)) s.1)) k
 
-pub put_new : (h g : Held Line) (c : Coordinate) (e : Entry) (n : ℕ) → length h.items ≤ h.ground.size → n ≡ length (meaning_of h.items) → is_some (find (meaning_of h.items) c) ≡ false → n < h.ground.size → (ltb (length (roomy h.ground.size c h.items)) h.ground.size ≡ true → g ≡ holding h (after_put h.ground.size c e h.items)) → PutAnswer h g c e (n + 1) (Ok tt)
+pub put_new : (h g : Held Line) (c : Coordinate) (e : Entry) (n : ℕ) → length h.items ≤ h.ground.size → n ≡ length (meaning_of h.items) → is_some (find (meaning_of h.items) c) ≡ false → n < h.ground.size → g ≡ keeping h c e → PutAnswer h g c e (n + 1) (Ok tt)
 put_new h g c e n le l absent less k =
     let m = meaning_of h.items in
     accepted h g c e (n + 1) le (ap (λ b. not b && leb h.ground.size (length m)) absent ∙ lt-leb h.ground.size (length m) (omega arith)) (omega (arith, length_put_absent m c e (none_from (find m c) absent))) k

@@ -7,7 +7,7 @@ use Rattle.copies.specs.declared.Edit.TheVariants.{Put, Take, Empty}
 use Rattle.copies.specs.Copies.{find}
 use Rattle.logs.specs.declared.lines.Line.{Line}
 use Rattle.logs.specs.Logs.{kept, gone, squeezed, copies_of}
-use Rattle.rows.specs.Trays.{Held}
+use Rattle.rows.specs.Trays.{Held, holding, added}
 use Rattle.log_shelves.specs.Trays.{places_in, records_in}
 
 -- how many records there is memory for, and those in use
@@ -24,6 +24,10 @@ cells_of h = cells (places_in h) (records_in h)
 -- with no free record the live records of other coordinates than c move together
 abbrev pub roomy : ℕ → Coordinate → List Line → List Line
 roomy size c xs = cond (nat_lt (length xs) size) xs (squeezed c xs)
+
+-- they move first, and then the record is added, where there is a free one
+abbrev pub keeping : Held Line → Coordinate → Entry → Held Line
+keeping h c e = added (holding h (roomy (places_in h) c (records_in h))) (kept c e)
 
 abbrev pub after_put : ℕ → Coordinate → Entry → List Line → List Line
 after_put size c e xs = cond (nat_lt (length (roomy size c xs)) size) (roomy size c xs ++ kept c e ∷ []) xs

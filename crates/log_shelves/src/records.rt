@@ -1,10 +1,10 @@
 // The records of a log in a tray.
-ghost use Rattle.std.specs.Prelude.{◌≡◌, true, length, nat_lt};
+ghost use Rattle.std.specs.Prelude.{◌≡◌};
 ghost use Rattle.rows.specs.Trays.{holding};
 ghost use Rattle.logs.specs.Logs.{squeezed};
 ghost use Rattle.log_shelves.specs.Trays.{places_in, records_in};
 ghost use Rattle.log_shelves.specs.Held.{held_in};
-ghost use Rattle.log_shelves.specs.Cells.{roomy, after_put, without};
+ghost use Rattle.log_shelves.specs.Cells.{keeping, without};
 
 use crate::LARGEST_SHELF;
 use crate::forms::LineForm;
@@ -22,10 +22,9 @@ fn move_up(records: &mut Records<'_>, at: Coordinate)
     records.count = compact(records.bytes, count, at);
 }
 
-// Appends a kept record, if one is free once the live records of other coordinates have moved.
+// Appends a kept record. With no free one the live records of other coordinates move first.
 pub fn keep(records: &mut Records<'_>, at: Coordinate, entry: Entry)
-    ensures { nat_lt (length (roomy (places_in (held_in records.old)) at (records_in (held_in records.old)))) (places_in (held_in records.old)) ≡ true
-        → held_in records.new ≡ holding (held_in records.old) (after_put (places_in (held_in records.old)) at entry (records_in (held_in records.old))) }
+    ensures { held_in records.new ≡ keeping (held_in records.old) at entry }
 {
     let line = Line::kept(at, entry);
     if records.add(line).is_err() {

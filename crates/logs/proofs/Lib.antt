@@ -1,5 +1,5 @@
 pub mod Settled
 pub mod Meanings
-pub mod Records
+pub mod Chunks
 pub mod Loops
 pub mod Moves

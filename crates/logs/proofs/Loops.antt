@@ -1,13 +1,12 @@
 -- A turn of a loop over the records.
-use Rattle.std.proofs.Common.{◌≡◌, ℕ, ◌+◌, ◌-◌, ◌<◌, ◌≤◌, Bool, true, false, cond, not, ◌&&◌, List, [], ◌∷◌, map, length, get_or, take, drop, is_some, Some, None, Option, sym, refl, ap, ◌∙◌, arith}
+use Rattle.std.proofs.Common.{◌≡◌, ℕ, ◌+◌, ◌-◌, ◌<◌, ◌≤◌, Bool, true, false, cond, List, [], ◌∷◌, map, length, get_or, take, drop, None, Option, sym, refl, ap, ◌∙◌, arith}
 use Rattle.std.proofs.lemmas.List.{drop_more, drop_all, drop-map, take_rest, length-map}
 use Rattle.std.proofs.Math.ListN.{get_or-map}
-use Rattle.copies.specs.declared.Entry.{Entry}
 use Rattle.copies.specs.declared.CopyRecord.{CopyRecord}
-use Rattle.copies.specs.Copies.{copy, in_range, nearer, nearer_in_range, first_in_range}
+use Rattle.copies.specs.Copies.{in_range, nearer, nearer_in_range, first_in_range}
 use Rattle.logs.specs.declared.lines.Line.{Line}
 use Rattle.logs.specs.Lines.{line_in}
-use Rattle.logs.specs.Logs.{named, lasts, copy_of, copies_of}
+use Rattle.logs.specs.Logs.{lasts, copy_of, copies_of}
 use Rattle.logs.proofs.Meanings.{first_more}
 
 -- the records from i on, as the code takes them, and the first of them
@@ -23,35 +22,29 @@ here rows i h =
 -- what the record adds to the best of the later ones
 abbrev pub with_record : Line → List Line → ℕ → ℕ → ℕ → Option CopyRecord → Option CopyRecord
 with_record r after p low high best =
-    cond (is_some r.held) (cond (in_range p low high (copy_of r)) (cond (named after r.at) best (nearer (copy_of r) best)) best) best
+    cond (in_range p low high (copy_of r)) (cond (lasts r after) (nearer (copy_of r) best) best) best
 
-pub with_near : (r : Line) (e : Entry) (after : List Line) (p low high : ℕ) (best new : Option CopyRecord) → r.held ≡ Some e → true ≡ in_range p low high (copy r.at e) → false ≡ named after r.at → new ≡ nearer (copy r.at e) best → new ≡ with_record r after p low high best
-with_near r e after p low high best new h k l m = cc
+pub with_near : (r : Line) (after : List Line) (p low high : ℕ) (best new : Option CopyRecord) → true ≡ in_range p low high (copy_of r) → true ≡ lasts r after → new ≡ nearer (copy_of r) best → new ≡ with_record r after p low high best
+with_near r after p low high best new k l m = cc
 
-pub with_named : (r : Line) (e : Entry) (after : List Line) (p low high : ℕ) (best : Option CopyRecord) → r.held ≡ Some e → true ≡ in_range p low high (copy r.at e) → true ≡ named after r.at → best ≡ with_record r after p low high best
-with_named r e after p low high best h k l = cc
+pub with_dead : (r : Line) (after : List Line) (p low high : ℕ) (best : Option CopyRecord) → true ≡ in_range p low high (copy_of r) → false ≡ lasts r after → best ≡ with_record r after p low high best
+with_dead r after p low high best k l = cc
 
-pub with_far : (r : Line) (e : Entry) (after : List Line) (p low high : ℕ) (best : Option CopyRecord) → r.held ≡ Some e → false ≡ in_range p low high (copy r.at e) → best ≡ with_record r after p low high best
-with_far r e after p low high best h k = cc
-
-pub with_gone : (r : Line) (after : List Line) (p low high : ℕ) (best : Option CopyRecord) → r.held ≡ None → best ≡ with_record r after p low high best
-with_gone r after p low high best h = cc
+pub with_far : (r : Line) (after : List Line) (p low high : ℕ) (best : Option CopyRecord) → false ≡ in_range p low high (copy_of r) → best ≡ with_record r after p low high best
+with_far r after p low high best k = cc
 
 pub next_turn : (rows : List (List ℕ)) (n : ℕ) (r : Line) (p low high : ℕ) (best : Option CopyRecord) → 0 < n → n ≤ length rows → r ≡ line_in (get_or rows (n - 1) []) → best ≡ first_in_range (copies_of (drop n (map line_in rows))) p low high → with_record r (map line_in (take (length rows - (n - 1 + 1)) (drop (n - 1 + 1) rows))) p low high best ≡ first_in_range (copies_of (drop (n - 1) (map line_in rows))) p low high
-unfolding lasts
 next_turn rows n r p low high best o l e f =
     let i = n - 1 in
     let k : i + 1 ≡ n = omega arith in
     let after = drop (i + 1) (map line_in rows) in
     let g : best ≡ first_in_range (copies_of after) p low high = f ∙ ap (λ j. first_in_range (copies_of (drop j (map line_in rows))) p low high) (sym k) in
-    ap (λ t. with_record r t p low high best) (later_lines rows (i + 1)) ∙ (swap (is_some r.held) (in_range p low high (copy_of r)) (named after r.at) best (nearer (copy_of r) best) ∙ (ap (λ b. cond (lasts r after) (nearer_in_range p low high (copy_of r) b) b) g ∙ (sym (first_more r after p low high) ∙ ap (λ t. first_in_range (copies_of t) p low high) (sym (here rows i (omega arith) ∙ ap (λ t. t ∷ after) (sym e))))))
+    ap (λ t. with_record r t p low high best) (later_lines rows (i + 1)) ∙ (swap (in_range p low high (copy_of r)) (lasts r after) (nearer (copy_of r) best) best ∙ (ap (λ b. cond (lasts r after) (nearer_in_range p low high (copy_of r) b) b) g ∙ (sym (first_more r after p low high) ∙ ap (λ t. first_in_range (copies_of t) p low high) (sym (here rows i (omega arith) ∙ ap (λ t. t ∷ after) (sym e))))))
   where
-    swap : {X : Type 0} (a b c : Bool) (x y : X) → cond a (cond b (cond c x y) x) x ≡ cond (a && not c) (cond b y x) x
-    swap false b c x y = refl
-    swap true false true x y = refl
-    swap true false false x y = refl
-    swap true true true x y = refl
-    swap true true false x y = refl
+    swap : {X : Type 0} (a b : Bool) (x y : X) → cond a (cond b x y) y ≡ cond b (cond a x y) y
+    swap true b x y = refl
+    swap false true x y = refl
+    swap false false x y = refl
 
 pub next_start : (rows : List (List ℕ)) (p low high : ℕ) → None ≡ first_in_range (copies_of (drop (length rows) (map line_in rows))) p low high
 next_start rows p low high =

@@ -1,5 +1,5 @@
 -- What becomes of a log's meaning: after a kept record, a gone one, and squeezing.
-use Rattle.std.proofs.Common.{◌≡◌, ℕ, ◌≤◌, Bool, true, false, cond, List, [], ◌∷◌, ◌++◌, map, length, is_some, reverse, Some, None, Option, sym, refl, ap, ◌∙◌, ⊎_elim, arith}
+use Rattle.std.proofs.Common.{◌≡◌, ℕ, ◌≤◌, Bool, true, false, cond, List, [], ◌∷◌, ◌++◌, map, length, reverse, Some, None, Option, sym, refl, ap, ◌∙◌, ⊎_elim, arith}
 use Rattle.std.proofs.lemmas.List.{append-nil, map_push, length-map, reverse-append, reverse-reverse}
 use Rattle.std.specs.List.{find as first_of}
 use Rattle.std.specs.Option.{option_and_then}
@@ -12,8 +12,8 @@ use Rattle.copies.proofs.Coordinates.{same_itself}
 use Rattle.copies.proofs.Facts.{find_after_put, find_after_remove, ordered_put, ordered_remove, equal_from_find}
 use Rattle.copies.proofs.Records.{ordered_from_records, find_from_records, length_from_records, next_from_records, find_push, from_records_push}
 use Rattle.logs.specs.declared.lines.Line.{Line}
-use Rattle.logs.specs.Lines.{entry_of, line_in}
-use Rattle.logs.specs.Logs.{kept, gone, lasts, lasting, others, squeezed, copy_of, copies_of, meaning_of}
+use Rattle.logs.specs.Lines.{line_in}
+use Rattle.logs.specs.Logs.{live_kind, kept, gone, lasts, lasting, others, squeezed, copy_of, copies_of, meaning_of, said_by}
 use Rattle.logs.proofs.Settled.{settled_lasting, lasting_squeezed, apart_settled, find_others, lasting_push, length_lasting}
 
 -- a test asked twice answers once
@@ -73,39 +73,31 @@ length_squeezed xs c =
 
 -- ---- searching
 
-entry_back : (o : Option Entry) → is_some o ≡ true → Some (entry_of o) ≡ o
-entry_back (Some e) h = refl
-entry_back None h = cc
-
-nothing : (o : Option Entry) → is_some o ≡ false → None ≡ o
-nothing (Some e) h = cc
-nothing None h = refl
-
 -- one record more decides for its own coordinate
-find_line_push : (xs : List Line) (r : Line) (d : Coordinate) → find (copies_of (xs ++ r ∷ [])) d ≡ cond (same r.at d) r.held (find (copies_of xs) d)
+pub find_line_push : (xs : List Line) (r : Line) (d : Coordinate) → find (copies_of (xs ++ r ∷ [])) d ≡ cond (same r.at d) (said_by r) (find (copies_of xs) d)
 find_line_push xs r d =
     let c = r.at in
     let live = lasting xs in
     let rest = map copy_of (others c live) in
     ⊎_elim
-    (λ l. ap (λ t. find (map copy_of t) d) (lasting_push xs r ∙ ap (λ t. others c live ++ t) (cond-true (is_some r.held) (r ∷ []) [] l)) ∙ (ap (λ t. find t d) (map_push copy_of (others c live) r) ∙ (find_push rest c (entry_of r.held) d (absent c live) ∙ (ap (cond (same c d) (Some (entry_of r.held))) (find_others c live d) ∙ (twice (same c d) (Some (entry_of r.held)) None (find (map copy_of live) d) ∙ ap (λ t. cond (same c d) t (find (map copy_of live) d)) (entry_back r.held l))))))
-    (λ n. ap (λ t. find (map copy_of t) d) (lasting_push xs r ∙ (ap (λ t. others c live ++ t) (cond-false (is_some r.held) (r ∷ []) [] n) ∙ append-nil (others c live))) ∙ (find_others c live d ∙ ap (λ t. cond (same c d) t (find (map copy_of live) d)) (nothing r.held n)))
-    (cases_Bool (is_some r.held))
+    (λ l. ap (λ t. find (map copy_of t) d) (lasting_push xs r ∙ ap (λ t. others c live ++ t) (cond-true (live_kind r.kind) (r ∷ []) [] l)) ∙ (ap (λ t. find t d) (map_push copy_of (others c live) r) ∙ (find_push rest c r.held d (absent c live) ∙ (ap (cond (same c d) (Some r.held)) (find_others c live d) ∙ (twice (same c d) (Some r.held) None (find (map copy_of live) d) ∙ ap (λ t. cond (same c d) t (find (map copy_of live) d)) (sym (cond-true (live_kind r.kind) (Some r.held) None l)))))))
+    (λ n. ap (λ t. find (map copy_of t) d) (lasting_push xs r ∙ (ap (λ t. others c live ++ t) (cond-false (live_kind r.kind) (r ∷ []) [] n) ∙ append-nil (others c live))) ∙ (find_others c live d ∙ ap (λ t. cond (same c d) t (find (map copy_of live) d)) (sym (cond-false (live_kind r.kind) (Some r.held) None n))))
+    (cases_Bool (live_kind r.kind))
 
 -- so the last of the records of a coordinate decides
-pub last_decides : (o : Option Line) (rows : List (List ℕ)) (c : Coordinate) → o ≡ first_of (λ x. same x.at c) (map line_in (reverse rows)) → option_and_then (λ x. x.held) o ≡ find (copies_of (map line_in rows)) c
+pub last_decides : (o : Option Line) (rows : List (List ℕ)) (c : Coordinate) → o ≡ first_of (λ x. same x.at c) (map line_in (reverse rows)) → option_and_then said_by o ≡ find (copies_of (map line_in rows)) c
 last_decides o rows c h =
-    ap (option_and_then (λ x. x.held)) h ∙ (backward (reverse rows) ∙ ap (λ t. find (copies_of (map line_in t)) c) (reverse-reverse rows))
+    ap (option_and_then said_by) h ∙ (backward (reverse rows) ∙ ap (λ t. find (copies_of (map line_in t)) c) (reverse-reverse rows))
   where
-    held_or : (b : Bool) (x : Line) (o : Option Line) → option_and_then (λ y. y.held) (cond b (Some x) o) ≡ cond b x.held (option_and_then (λ y. y.held) o)
-    held_or true x o = refl
-    held_or false x o = refl
+    says_or : (b : Bool) (x : Line) (o : Option Line) → option_and_then said_by (cond b (Some x) o) ≡ cond b (said_by x) (option_and_then said_by o)
+    says_or true x o = refl
+    says_or false x o = refl
 
-    backward : (ys : List (List ℕ)) → option_and_then (λ x. x.held) (first_of (λ x. same x.at c) (map line_in ys)) ≡ find (copies_of (map line_in (reverse ys))) c
+    backward : (ys : List (List ℕ)) → option_and_then said_by (first_of (λ x. same x.at c) (map line_in ys)) ≡ find (copies_of (map line_in (reverse ys))) c
     backward [] = refl
     backward (y ∷ ys) =
         let r = line_in y in
-        held_or (same r.at c) r (first_of (λ x. same x.at c) (map line_in ys)) ∙ (ap (cond (same r.at c) r.held) (backward ys) ∙ (sym (find_line_push (map line_in (reverse ys)) r c) ∙ ap (λ t. find (copies_of t) c) (sym (map_push line_in (reverse ys) y) ∙ ap (map line_in) (sym (reverse-append (y ∷ []) ys)))))
+        says_or (same r.at c) r (first_of (λ x. same x.at c) (map line_in ys)) ∙ (ap (cond (same r.at c) (said_by r)) (backward ys) ∙ (sym (find_line_push (map line_in (reverse ys)) r c) ∙ ap (λ t. find (copies_of t) c) (sym (map_push line_in (reverse ys) y) ∙ ap (map line_in) (sym (reverse-append (y ∷ []) ys)))))
 
 pub next_meaning : (xs : List Line) (p low high : ℕ) → next (meaning_of xs) p low high ≡ first_in_range (copies_of xs) p low high
 next_meaning xs p low high = next_from_records (copies_of xs) p low high (apart_settled (lasting xs) (settled_lasting xs))

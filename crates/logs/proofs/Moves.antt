@@ -15,7 +15,7 @@ use Rattle.logs.specs.declared.lines.Line.{Line}
 use Rattle.logs.specs.Lines.{line_bytes, line_in, line_form}
 use Rattle.logs.specs.Logs.{lasts, squeezed}
 use Rattle.logs.specs.Reads.{clipped, lines_in}
-use Rattle.logs.proofs.Records.{line_first, chunk_at}
+use Rattle.logs.proofs.Chunks.{line_first, chunk_at}
 use Rattle.logs.proofs.Loops.{later_lines}
 use Rattle.std.specs.Simd.{first_chunks}
 use Rattle.logs.proofs.Meanings.{squeezed_in, squeezed_out}

@@ -1,5 +1,5 @@
 -- Which records of a log live: after one more record, after squeezing, and that no coordinate lives twice.
-use Rattle.std.proofs.Common.{◌≡◌, ◌≤◌, Bool, true, false, cond, not, ◌||◌, ◌⊎◌, List, [], ◌∷◌, ◌++◌, map, length, is_some, Some, None, sym, refl, ap, ◌∙◌, inl, inr, ⊎_elim, arith}
+use Rattle.std.proofs.Common.{◌≡◌, ◌≤◌, Bool, true, false, cond, not, ◌||◌, ◌⊎◌, List, [], ◌∷◌, ◌++◌, map, length, Some, None, sym, refl, ap, ◌∙◌, inl, inr, ⊎_elim, arith}
 use Rattle.std.proofs.lemmas.Bool.{cond-true, cond-false, cond_both, cases_Bool, both_ways, and_parts, and_from, and_cases, or_parts, or_from, or_left, or_right, not-true, not-false, not_from_false}
 use Rattle.copies.specs.declared.Coordinate.{Coordinate}
 use Rattle.copies.specs.Copies.{same, find, apart}
@@ -7,25 +7,24 @@ use Rattle.copies.proofs.Coordinates.{equal_from_same, same_flip}
 use Rattle.copies.proofs.Facts.{find_here, find_there}
 use Rattle.copies.proofs.Records.{absent_from_none}
 use Rattle.logs.specs.declared.lines.Line.{Line}
-use Rattle.logs.specs.Lines.{entry_of}
-use Rattle.logs.specs.Logs.{named, lasts, lasting, others, squeezed, copy_of}
+use Rattle.logs.specs.Logs.{live_kind, named, lasts, lasting, others, squeezed, copy_of}
 
 -- ---- what it says that a record lasts
 
-pub lasts_parts : (x : Line) (xs : List Line) → lasts x xs ≡ true → (is_some x.held ≡ true) × (named xs x.at ≡ false)
+pub lasts_parts : (x : Line) (xs : List Line) → lasts x xs ≡ true → (live_kind x.kind ≡ true) × (named xs x.at ≡ false)
 unfolding lasts
 lasts_parts x xs h =
-    let p = and_parts (is_some x.held) (not (named xs x.at)) h in
+    let p = and_parts (live_kind x.kind) (not (named xs x.at)) h in
     (p.0, not-true (named xs x.at) p.1)
 
-pub lasts_from : (x : Line) (xs : List Line) → is_some x.held ≡ true → named xs x.at ≡ false → lasts x xs ≡ true
+pub lasts_from : (x : Line) (xs : List Line) → live_kind x.kind ≡ true → named xs x.at ≡ false → lasts x xs ≡ true
 unfolding lasts
-lasts_from x xs h k = and_from (is_some x.held) (not (named xs x.at)) h (not_from_false (named xs x.at) k)
+lasts_from x xs h k = and_from (live_kind x.kind) (not (named xs x.at)) h (not_from_false (named xs x.at) k)
 
-pub not_lasts : (x : Line) (xs : List Line) → lasts x xs ≡ false → (is_some x.held ≡ false) ⊎ (named xs x.at ≡ true)
+pub not_lasts : (x : Line) (xs : List Line) → lasts x xs ≡ false → (live_kind x.kind ≡ false) ⊎ (named xs x.at ≡ true)
 unfolding lasts
 not_lasts x xs h =
-    ⊎_elim (λ l. inl l) (λ n. inr (not-false (named xs x.at) n)) (and_cases (is_some x.held) (not (named xs x.at)) h)
+    ⊎_elim (λ l. inl l) (λ n. inr (not-false (named xs x.at) n)) (and_cases (live_kind x.kind) (not (named xs x.at)) h)
 
 -- ---- names
 
@@ -101,23 +100,23 @@ find_others c (x ∷ xs) d =
     (λ own. find_others c xs d ∙ cond_both (same c d) None (find (map copy_of xs) d) (λ t. t ≡ cond (same c d) None (find (copy_of x ∷ map copy_of xs) d))
     (λ s. sym (cond-true (same c d) None _ s))
     (λ n. sym (cond-false (same c d) None _ n ∙ find_there (copy_of x) (map copy_of xs) d (ap (λ a. same a d) (equal_from_same x.at c own) ∙ n))))
-    (λ other. cond_both (same x.at d) (Some (entry_of x.held)) (find (map copy_of (others c xs)) d) (λ t. t ≡ cond (same c d) None (find (copy_of x ∷ map copy_of xs) d))
+    (λ other. cond_both (same x.at d) (Some x.held) (find (map copy_of (others c xs)) d) (λ t. t ≡ cond (same c d) None (find (copy_of x ∷ map copy_of xs) d))
     (λ s. sym (cond-false (same c d) None _ (same_flip c d ∙ (ap (λ a. same a c) (sym (equal_from_same x.at d s)) ∙ other)) ∙ find_here (copy_of x) (map copy_of xs) d s))
     (λ n. find_others c xs d ∙ ap (cond (same c d) None) (sym (find_there (copy_of x) (map copy_of xs) d n))))
 
 -- ---- one more record
 
-pub lasting_push : (xs : List Line) (r : Line) → lasting (xs ++ r ∷ []) ≡ others r.at (lasting xs) ++ cond (is_some r.held) (r ∷ []) []
+pub lasting_push : (xs : List Line) (r : Line) → lasting (xs ++ r ∷ []) ≡ others r.at (lasting xs) ++ cond (live_kind r.kind) (r ∷ []) []
 lasting_push [] r =
     ⊎_elim
-    (λ l. cond-true (lasts r []) (r ∷ []) [] (lasts_from r [] l refl) ∙ sym (cond-true (is_some r.held) (r ∷ []) [] l))
-    (λ n. cond-false (lasts r []) (r ∷ []) [] (not_live n) ∙ sym (cond-false (is_some r.held) (r ∷ []) [] n))
-    (cases_Bool (is_some r.held))
+    (λ l. cond-true (lasts r []) (r ∷ []) [] (lasts_from r [] l refl) ∙ sym (cond-true (live_kind r.kind) (r ∷ []) [] l))
+    (λ n. cond-false (lasts r []) (r ∷ []) [] (not_live n) ∙ sym (cond-false (live_kind r.kind) (r ∷ []) [] n))
+    (cases_Bool (live_kind r.kind))
   where
-    not_live : is_some r.held ≡ false → lasts r [] ≡ false
-    not_live n = ⊎_elim (λ t. absurd (both_ways (is_some r.held) n (lasts_parts r [] t).0)) (λ f. f) (cases_Bool (lasts r []))
+    not_live : live_kind r.kind ≡ false → lasts r [] ≡ false
+    not_live n = ⊎_elim (λ t. absurd (both_ways (live_kind r.kind) n (lasts_parts r [] t).0)) (λ f. f) (cases_Bool (lasts r []))
 lasting_push (x ∷ xs) r =
-    let more = cond (is_some r.held) (r ∷ []) [] in
+    let more = cond (live_kind r.kind) (r ∷ []) [] in
     let later = lasting (xs ++ r ∷ []) in
     let ih = lasting_push xs r in
     let names = named_push xs r x.at in
@@ -136,7 +135,7 @@ lasting_push (x ∷ xs) r =
         ⊎_elim
         (λ t. let p = lasts_parts x (xs ++ r ∷ []) t in
         ⊎_elim
-        (λ dead. absurd (both_ways (is_some x.held) dead p.0))
+        (λ dead. absurd (both_ways (live_kind x.kind) dead p.0))
         (λ n. absurd (both_ways (named (xs ++ r ∷ []) x.at) p.1 (named_push xs r x.at ∙ or_right (same r.at x.at) (named xs x.at) n)))
         (not_lasts x xs f))
         (λ g. g)

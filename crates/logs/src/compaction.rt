@@ -1,23 +1,12 @@
 // Moving the live records of a log together.
-ghost use Rattle.std.specs.Prelude.{◌≡◌, length, map};
-ghost use Rattle.std.specs.Simd.{first_chunks};
-ghost use Rattle.logs.specs.Lines.{line_in};
+ghost use Rattle.std.specs.Prelude.{◌≡◌, length};
 ghost use Rattle.logs.specs.Logs.{squeezed};
-ghost use Rattle.logs.specs.Reads.{clipped, lines_in, compacted};
+ghost use Rattle.logs.specs.Reads.{lines_in, compacted};
 
 use crate::lines::{WIDTH, line_of};
+use crate::reads::records;
 use crate::searches::lasts;
 use copies::Coordinate;
-
-// The first `used` records, or all that there are.
-fn records(bytes: &[u8], used: usize) -> &[[u8; WIDTH]]
-    ensures bytes { result.now ≡ first_chunks 18 (clipped bytes.now used) bytes.now }
-    ensures lines { map line_in result.now ≡ lines_in bytes.now used }
-    ensures len { length result.now ≡ clipped bytes.now used }
-{
-    let (records, _) = bytes.as_chunks();
-    &records[..used.min(records.len())]
-}
 
 // Moves the live records of other coordinates than `at` to the front, in order, writes zeros over the rest, and answers how many they are.
 pub fn compact(bytes: &mut [u8], used: usize, at: Coordinate) -> usize

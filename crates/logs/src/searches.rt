@@ -20,7 +20,7 @@ fn last_of(records: &[[u8; WIDTH]], at: Coordinate) -> Option<Line>
 pub fn find_in(records: &[[u8; WIDTH]], at: Coordinate) -> Option<Entry>
     ensures { result ≡ found (copies_of (map line_in records.now)) at }
 {
-    last_of(records, at)?.held
+    last_of(records, at)?.says()
 }
 
 // Whether one of the records is of the coordinate.
@@ -36,7 +36,7 @@ fn is_named(records: &[[u8; WIDTH]], at: Coordinate) -> bool
 pub fn lasts(line: Line, later: &[[u8; WIDTH]]) -> bool
     ensures { result ≡ lasts line (map line_in later.now) }
 {
-    line.held.is_some() && !is_named(later, line.at)
+    line.is_live() && !is_named(later, line.at)
 }
 
 // The first copy of `peer` with `low` ≤ place ≤ `high`.
@@ -47,11 +47,12 @@ pub fn next_in(records: &[[u8; WIDTH]], peer: u16, low: u16, high: u16) -> Optio
     // By place, since the later records say whether one lives.
     for n in (0..records.len()).rev() {
         let line = line_of(&records[n]);
-        if let Some(held) = line.held {
-            let copy = CopyRecord { at: line.at, held };
-            if copy.in_range(peer, low, high) && !is_named(&records[n + 1..], copy.at) {
-                best = copy.nearer(best);
-            }
+        let copy = CopyRecord {
+            at: line.at,
+            held: line.held,
+        };
+        if copy.in_range(peer, low, high) && lasts(line, &records[n + 1..]) {
+            best = copy.nearer(best);
         }
     }
     best

@@ -1,10 +1,9 @@
-use Rattle.std.proofs.Common.{◌≡◌, ◌+◌, ◌-◌, ◌*◌, ◌/◌, ◌<◌, ◌≤◌, is_some, true, take, drop, length, replicate, sym, ap, ◌∙◌, arith}
+use Rattle.std.proofs.Common.{◌≡◌, ◌+◌, ◌-◌, ◌*◌, ◌/◌, ◌<◌, ◌≤◌, take, drop, length, replicate, sym, ap, ◌∙◌, arith}
 use Rattle.std.proofs.lemmas.List.{length-take, length-drop}
 use Rattle.std.proofs.lemmas.Bool.{not-true, not-false}
 use Rattle.copies.specs.Copies.{same}
 use Rattle.logs.specs.Lines.{line_bytes}
 use Rattle.logs.specs.Logs.{lasts}
-use Rattle.logs.proofs.Settled.{lasts_parts}
 use Rattle.logs.proofs.Meanings.{squeezed_own}
 use Rattle.logs.proofs.Moves.{moved_past, moved_in, moved_out, moved_all, filled, carried, first_read, later_read, row_read}
 use Rattle.logs.proofs.compaction.compact.Goals as goal
@@ -25,9 +24,9 @@ loop-n-preserved c =
     let more : i < n = omega arith in
     let is = c.line_of-line.ensures.value ∙ first_read n now rows i fits more c.records-records.ensures.bytes in
     let lasts_so = later_read n now rows (i + 1) fits c.records-records.ensures.lines in
-    let form : is_some r.held ≡ true → line_bytes r ≡ take 18 (drop (18 * i) now) = λ h. sym (sym (row_read n now rows i fits more c.records-records.ensures.bytes) ∙ c.line_of-line.ensures.form h) in
+    let form : line_bytes r ≡ take 18 (drop (18 * i) now) = sym (sym (row_read n now rows i fits more c.records-records.ensures.bytes) ∙ c.line_of-line.ensures.form) in
     elim c.if-ne.branch [
-      | then-ne+then-lasts w ↦ carried n bs _ _ at (i + 1) _ _ w.bytes-is w.moved-is (let lives = ap (lasts r) (sym lasts_so) ∙ sym w.if-lasts.ensures in moved_in n bs now at i moved r _ c.loop-n.invariant more fits is (form (lasts_parts r _ lives).0) (not-true (same r.at at) (sym w.if-ne.ensures)) lives w.copy_within.ensures.after)
+      | then-ne+then-lasts w ↦ carried n bs _ _ at (i + 1) _ _ w.bytes-is w.moved-is (moved_in n bs now at i moved r _ c.loop-n.invariant more fits is form (not-true (same r.at at) (sym w.if-ne.ensures)) (ap (lasts r) (sym lasts_so) ∙ sym w.if-lasts.ensures) w.copy_within.ensures.after)
       | else-ne w ↦ carried n bs _ _ at (i + 1) _ _ w.bytes-is w.moved-is (elim w.else-ne.branch [
         | else-ne-via-then-ne+else-lasts v ↦ moved_out n bs now at i moved r c.loop-n.invariant more is (ap (lasts r) (sym lasts_so) ∙ sym v.if-lasts.ensures)
         | else-ne-via-else-ne v ↦ moved_past n bs now at i moved r c.loop-n.invariant more is (squeezed_own at r _ (not-false (same r.at at) (sym v.if-ne.ensures)))

@@ -9,4 +9,4 @@ returns-in_err-last_of c =
 
 pub returns : goal.returns
 returns c =
-    last_decides (Some c.in_ok-last_of.field-0) _ _ (sym c.in_ok-last_of.was ∙ c.last_of.ensures)
+    c.says.ensures ∙ last_decides (Some c.in_ok-last_of.field-0) _ _ (sym c.in_ok-last_of.was ∙ c.last_of.ensures)

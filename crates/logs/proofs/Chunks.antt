@@ -1,17 +1,14 @@
 -- The records of a log, each in 18 bytes of its own.
-use Rattle.std.proofs.Common.{◌≡◌, ℕ, zero, suc, ◌+◌, ◌*◌, ◌/◌, ◌<◌, List, [], ◌∷◌, ◌++◌, map, length, take, drop, min, get_or, true, is_some, Some, None, ⊎_elim, sym, refl, ap, ◌∙◌, lit<, arith}
+use Rattle.std.proofs.Common.{◌≡◌, ℕ, zero, suc, ◌+◌, ◌*◌, ◌/◌, ◌<◌, List, [], ◌∷◌, ◌++◌, map, length, take, drop, min, get_or, sym, refl, ap, ◌∙◌, lit<, arith}
 use Rattle.std.proofs.lemmas.List.{get_or-take, drop-drop, drop_all}
-use Rattle.std.proofs.lemmas.Bool.{cond-true, cond-false, cases_Bool}
-use Rattle.std.proofs.lemmas.Bool.Decides.{nat_tests}
 use Rattle.std.specs.Simd.{first_chunks}
-use Rattle.copies.specs.declared.Entry.{Entry}
-use Rattle.words.specs.Words.{two, four, eight, of16, of32, of64}
+use Rattle.words.specs.Words.{two, four, eight}
 use Rattle.words.proofs.Bytes.{spread, spread_out}
 use Rattle.words.proofs.Trips.{there16, there32, there64}
 use Rattle.rows.specs.Rows.{rows_in}
 use Rattle.rows.proofs.Laid.{take_chunks}
 use Rattle.logs.specs.declared.lines.Line.{Line}
-use Rattle.logs.specs.Lines.{live_kind, entry, held_by, kind_of, entry_of, line_bytes, line_in, line_form}
+use Rattle.logs.specs.Lines.{line_bytes, line_in, line_form}
 use Rattle.logs.specs.Reads.{clipped, lines_in}
 
 pub line_first : (bs : List ℕ) → line_in (take 18 bs) ≡ line_in bs
@@ -52,37 +49,26 @@ taken bs used k chunks e f l =
     }
 
 -- what stands in an array is the bytes of the record
-pub line_laid : (x : Line) (kind : ℕ) (e : Entry) (a b c d : List ℕ) → kind ≡ kind_of x.held → e ≡ entry_of x.held → a ≡ two x.at.peer → b ≡ two x.at.place → c ≡ four e.stamp → d ≡ eight e.value → kind ∷ (x.at.replica ∷ (spread 0 2 a ++ (spread 0 2 b ++ (spread 0 4 c ++ spread 0 8 d)))) ≡ line_bytes x
-line_laid x kind e a b c d h i j k l m = cc
-
-of_kind_one : (kind : ℕ) → live_kind kind ≡ true → kind ≡ 1
-of_kind_one kind h = grind (arith, nat_tests)
-
-live_of_kind : (kind stamp value : ℕ) → is_some (held_by kind stamp value) ≡ true → live_kind kind ≡ true
-live_of_kind kind stamp value h =
-    ⊎_elim (λ t. t) (λ f. let k = cond-false (live_kind kind) (Some (entry stamp value)) None f in cc) (cases_Bool (live_kind kind))
+pub line_laid : (x : Line) (a b c d : List ℕ) → a ≡ two x.at.peer → b ≡ two x.at.place → c ≡ four x.held.stamp → d ≡ eight x.held.value → x.kind ∷ (x.at.replica ∷ (spread 0 2 a ++ (spread 0 2 b ++ (spread 0 4 c ++ spread 0 8 d)))) ≡ line_bytes x
+line_laid x a b c d j k l m = cc
 
 abbrev laid : ℕ → ℕ → List ℕ → List ℕ → List ℕ → List ℕ → List ℕ
 laid k r a b c d = k ∷ (r ∷ (a ++ (b ++ (c ++ d))))
 
-same_laid : (r k k' : ℕ) (a a' b b' c c' d d' : List ℕ) → k ≡ k' → a ≡ a' → b ≡ b' → c ≡ c' → d ≡ d' → laid k r a b c d ≡ laid k' r a' b' c' d'
-same_laid r k k' a a' b b' c c' d d' e f g h i = cc
+same_laid : (k r : ℕ) (a a' b b' c c' d d' : List ℕ) → a ≡ a' → b ≡ b' → c ≡ c' → d ≡ d' → laid k r a b c d ≡ laid k r a' b' c' d'
+same_laid k r a a' b b' c c' d d' f g h i = cc
 
--- a kept record's bytes are those that it was read from
-pub kept_bytes : (bs : List ℕ) → length bs ≡ 18 → ((i : ℕ) → get_or bs i 0 < 256) → is_some (line_in bs).held ≡ true → line_bytes (line_in bs) ≡ bs
-kept_bytes bs h small live =
+-- a record's bytes are those that it was read from
+bytes_back : (bs : List ℕ) → length bs ≡ 18 → ((i : ℕ) → get_or bs i 0 < 256) → line_bytes (line_in bs) ≡ bs
+bytes_back bs h small =
     let b : ℕ → ℕ = λ i. get_or bs i 0 in
-    let s = of32 (of16 (b 6) (b 7)) (of16 (b 8) (b 9)) in
-    let v = of64 (of32 (of16 (b 10) (b 11)) (of16 (b 12) (b 13))) (of32 (of16 (b 14) (b 15)) (of16 (b 16) (b 17))) in
-    let t = live_of_kind (b 0) s v live in
-    let held : (line_in bs).held ≡ Some (entry s v) = cond-true (live_kind (b 0)) (Some (entry s v)) None t in
     let p = there16 (b 2) (b 3) (small 3) in
     let q = there16 (b 4) (b 5) (small 5) in
     let x = there32 (b 6) (b 7) (b 8) (b 9) (small 7) (small 8) (small 9) in
     let y = there64 (b 10) (b 11) (b 12) (b 13) (b 14) (b 15) (b 16) (b 17) (small 11) (small 12) (small 13) (small 14) (small 15) (small 16) (small 17) in
     let none : drop 18 bs ≡ [] = drop_all 18 bs (omega arith) in
     let whole : bs ≡ spread 0 18 bs = spread_out 0 18 bs (omega arith) ∙ ap (λ t. spread 0 18 bs ++ t) none in
-    same_laid (b 1) _ _ _ _ _ _ _ _ _ _ (ap kind_of held ∙ sym (of_kind_one (b 0) t)) p q (ap (λ o. four (entry_of o).stamp) held ∙ x) (ap (λ o. eight (entry_of o).value) held ∙ y) ∙ sym whole
+    same_laid (b 0) (b 1) _ _ _ _ _ _ _ _ p q x y ∙ sym whole
 
-pub form_of : (bs : List ℕ) (x : Line) → length bs ≡ 18 → ((i : ℕ) → get_or bs i 0 < 256) → x ≡ line_in bs → is_some x.held ≡ true → bs ≡ line_bytes x
-form_of bs x h small e live = sym (ap line_bytes e ∙ kept_bytes bs h small (ap (λ y. is_some y.held) (sym e) ∙ live))
+pub form_of : (bs : List ℕ) (x : Line) → length bs ≡ 18 → ((i : ℕ) → get_or bs i 0 < 256) → x ≡ line_in bs → bs ≡ line_bytes x
+form_of bs x h small e = sym (ap line_bytes e ∙ bytes_back bs h small)

@@ -1,5 +1,5 @@
-use Rattle.logs.proofs.Records.{taken}
-use Rattle.logs.proofs.compaction.records.Goals as goal
+use Rattle.logs.proofs.Chunks.{taken}
+use Rattle.logs.proofs.reads.records.Goals as goal
 
 pub returns : goal.returns
 returns c =
