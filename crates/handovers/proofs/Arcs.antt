@@ -1,9 +1,10 @@
 -- An arc is one range of places, or two where it passes 0. Assumes nothing.
-use Rattle.std.proofs.Common.{◌≡◌, ℕ, ◌+◌, ◌-◌, ◌<◌, ◌≤◌, Bool, true, false, cond, ◌&&◌, ◌⊎◌, inl, inr, eqb, leb, List, [], ◌∷◌, ◌++◌, length, fold, refl, ap, ◌∙◌, arith, length-append}
+use Rattle.std.proofs.Common.{◌≡◌, ℕ, ◌+◌, ◌-◌, ◌<◌, ◌≤◌, Bool, true, false, cond, ◌&&◌, ◌⊎◌, inl, inr, eqb, ltb, leb, List, [], ◌∷◌, ◌++◌, length, fold, refl, ap, ◌∙◌, arith, length-append}
 use Rattle.std.specs.List.{AllByRecursion}
 use Rattle.std.proofs.ByRecursion.{All-weaker, kept_by_passes}
 use Rattle.std.proofs.lemmas.Bool.{eq-eqb, ne_eqb, lt-ltb, le-ltb, and_right, and_parts, lt-leb, leb-true, both_ways}
 use Rattle.std.proofs.lemmas.Bool.Decides.{nat_tests}
+use Rattle.std.proofs.lemmas.List.{nil_from_length}
 use Rattle.copies.specs.declared.CopyRecord.{CopyRecord}
 use Rattle.copies.specs.Copies.{in_range}
 use Rattle.holders.specs.declared.holder.Holder.{Ghosts as Holding}
@@ -17,16 +18,25 @@ use Rattle.handovers.proofs.Ranges.{left, in_range_by_place, in_range_other, kep
 
 -- ---- which copies are handed over
 
+handed_empty : (n x g a e : ℕ) → handed n x g a e [] ≡ []
+unfolding handed owed
+handed_empty n x g a e = at (eqb x g) (ltb a e) (ltb e a)
+  where
+    at : (t u v : Bool) → ◌≡◌ {A = List CopyRecord} (cond t [] (cond u [] (cond v [] []))) []
+    at true u v = refl
+    at false true v = refl
+    at false false true = refl
+    at false false false = refl
+
 module _ (n x g a e : ℕ) (sh : List CopyRecord) where
-  pub handed_none : (x ≡ g) ⊎ ((x ≡ g → ⊥) × (a ≡ e)) → handed n x g a e sh ≡ []
+  pub handed_none : (length sh ≡ 0) ⊎ (((length sh ≡ 0 → ⊥) × (x ≡ g)) ⊎ ((length sh ≡ 0 → ⊥) × (x ≡ g → ⊥) × (a ≡ e))) → handed n x g a e sh ≡ []
   unfolding handed owed
-  handed_none = elim [
-    | inl is ↦ simp (eq-eqb x g is)
-    | inr h ↦
-        let ahead : e ≤ a = omega (arith, h.1) in
-        let behind : a ≤ e = omega (arith, h.1) in
-        simp (ne_eqb x g h.0, le-ltb a e ahead, le-ltb e a behind)
-  ]
+  handed_none (inl empty) = ap (handed n x g a e) (nil_from_length sh empty) ∙ handed_empty n x g a e
+  handed_none (inr (inl (some, is))) = simp (eq-eqb x g is)
+  handed_none (inr (inr (some, other, is))) =
+      let ahead : e ≤ a = omega (arith, is) in
+      let behind : a ≤ e = omega (arith, is) in
+      simp (ne_eqb x g other, le-ltb a e ahead, le-ltb e a behind)
 
   pub handed_forward : (x ≡ g → ⊥) → a < e → handed n x g a e sh ≡ left g (a + 1) e sh
   unfolding handed owed

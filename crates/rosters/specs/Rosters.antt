@@ -1,5 +1,5 @@
 -- What a roster means. Assumes nothing.
-use Rattle.std.specs.Prelude.{ℕ, List}
+use Rattle.std.specs.Prelude.{ℕ, List, take}
 use Rattle.rosters.specs.declared.roster.Roster.{Roster}
 
 -- the most entries of a roster
@@ -8,4 +8,4 @@ most_entries = 64
 
 -- its entries, in order of arrival
 abbrev pub listed : {X : Type 0} → Roster X → List X
-listed r = r.entries.items
+listed r = take r.count r.entries

@@ -20,7 +20,7 @@ impl Questions {
         ensures { questions_of result ≡ [] }
     {
         Questions {
-            asked: Roster::new(),
+            asked: Roster::new(Question::default()),
         }
     }
 

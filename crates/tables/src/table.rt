@@ -29,7 +29,7 @@ impl Table {
         ensures { peers_of result ≡ [] }
     {
         Table {
-            peers: Roster::new(),
+            peers: Roster::new(Peer::default()),
         }
     }
 

@@ -3,10 +3,10 @@ use Rattle.handovers.proofs.Arcs.{handed_none, handed_forward, handed_round, han
 use Rattle.handovers.proofs.Moving.{moves_none}
 use Rattle.handovers.proofs.hand_over.Goals as goal
 
-pub returns-then-filler-giver : goal.returns-then-filler-giver
-returns-then-filler-giver g c =
+pub returns-then-count-eq0 : goal.returns-then-count-eq0
+returns-then-count-eq0 g c =
     let s = c.args.shelf.now in
-    let none = handed_none c.args.settings.size c.args.filler c.args.giver c.args.start c.args.end (g.S.Shelf.meaning s) c.then-filler-giver.either in
+    let none = handed_none c.args.settings.size c.args.filler c.args.giver c.args.start c.args.end (g.S.Shelf.meaning s) (rw c.count.ensures at c.then-count-eq0.either) in
     record {
       value = sym (ap length none);
       done = handed_by g.S.Shelf g.S.Holder c.args.settings.size c.args.filler c.args.giver c.args.start c.args.end s s [] none (moves_none g.S.Shelf g.S.Holder c.args.filler s);
