@@ -4,13 +4,21 @@ use faults::Fault;
 use holders::{Holder, Post, put_then_look, room_left};
 use messages::Message;
 use rack_posts::RackPost;
-use racks::Blank;
+use racks::Rack;
 
 const DUST: Message = Message::Replicate {
     to: 9,
     from: 9,
     start: 9,
     end: 9,
+};
+
+// What a place holds that is not in use, as the format says it and not as the code writes it.
+const BLANK: Message = Message::GetItem {
+    to: 0,
+    replica: 0,
+    place: 0,
+    question: 0,
 };
 
 fn ask(question: u32) -> Message {
@@ -55,7 +63,7 @@ fn the_others_keep_their_order(rt: HostRuntime) {
         assert_eq!(rt; post.kept(), 2);
     }
     assert_eq!(rt; memory[1], ask(3));
-    assert_eq!(rt; memory[2], Message::blank());
+    assert_eq!(rt; memory[2], BLANK);
 }
 
 #[test]
@@ -68,6 +76,19 @@ fn an_emptied_post_is_blank(rt: HostRuntime) {
         post.empty();
         assert_eq!(rt; post.look(0), None);
     }
-    assert_eq!(rt; memory[0], Message::blank());
+    assert_eq!(rt; memory[0], BLANK);
     assert_eq!(rt; memory[256], DUST);
+}
+
+#[test]
+fn a_rack_is_made_within_a_number_at_run_time(rt: HostRuntime) {
+    let mut memory = [DUST; 4];
+    let mut rack: Rack<Message, { usize::MAX }> = Rack::make_within(&mut memory, 2);
+    assert_eq!(rt; rack.size(), 2);
+    assert_eq!(rt; rack.add(ask(1)), Ok(()));
+    assert_eq!(rt; rack.add(ask(2)), Ok(()));
+    assert_eq!(rt; rack.add(ask(3)), Err(ask(3)));
+    assert_eq!(rt; rack.remove(0), Some(ask(1)));
+    let back = rack.into_memory();
+    assert!(rt; &*back == [ask(2), BLANK, DUST, DUST].as_slice());
 }

@@ -34,7 +34,7 @@ impl<'a, T: Blank + Copy, const MOST: usize> Holder for Rack<'a, T, MOST> {
     }
 
     fn size(&self) -> usize {
-        self.records.len().min(MOST)
+        self.records.len().min(self.largest)
     }
 
     fn kept(&self) -> usize {

@@ -1,6 +1,7 @@
 // A list of records in memory that is handed in. Places not in use hold the blank.
 #![tactic(auto)]
 
+ghost use Rattle.std.specs.Prelude.{◌≤◌};
 ghost use Rattle.racks.specs.Laws.{RackFacts};
 ghost use Rattle.racks.specs.Parts.{Sound, cut};
 
@@ -10,12 +11,14 @@ mod lists;
 
 pub use blanks::Blank;
 
-// The first `count` records are in use. The rack's size is the number of records, at most `MOST`.
+// The first `count` records are in use. The rack's size is the number of records, at most `largest`.
 #[derive(Drop)]
 pub struct Rack<'a, T: Blank + Copy, const MOST: usize> {
     records: &'a mut [T],
+    largest: usize,
     count: usize,
-    ghost sound: { Sound T.Blank.nothing MOST count (cut records.ghost_name records.now MOST count) },
+    ghost limited: { largest ≤ MOST },
+    ghost sound: { Sound T.Blank.nothing MOST count (cut records.ghost_name records.now largest count) },
 }
 
 // What every call keeps, for the check to ask for the proofs.

@@ -1,5 +1,5 @@
 // A rack as a list of records: what each call makes of its memory.
-ghost use Rattle.std.specs.Prelude.{◌≡◌, if◌then◌else◌, Ok, Err};
+ghost use Rattle.std.specs.Prelude.{◌≡◌, min, if◌then◌else◌, Ok, Err};
 ghost use Rattle.std.specs.List.{slice_get};
 ghost use Rattle.racks.specs.Parts.{cut, joined_up, blanks_after, full, added, overwritten, closed_up, emptied};
 ghost use Rattle.racks.specs.Racks.{parts_of};
@@ -13,10 +13,19 @@ impl<'a, T: Blank + Copy, const MOST: usize> Rack<'a, T, MOST> {
     pub fn make(memory: &'a mut [T]) -> Rack<'a, T, MOST>
         ensures { parts_of result ≡ emptied T.Blank.nothing (cut memory.entry.ghost_name memory.old MOST 0) }
     {
-        let size = memory.len().min(MOST);
+        Rack::make_within(memory, MOST)
+    }
+
+    // The same, of at most `largest` records where that is less than `MOST`.
+    pub fn make_within(memory: &'a mut [T], largest: usize) -> Rack<'a, T, MOST>
+        ensures { parts_of result ≡ emptied T.Blank.nothing (cut memory.entry.ghost_name memory.old (min largest MOST) 0) }
+    {
+        let largest = largest.min(MOST);
+        let size = memory.len().min(largest);
         fill(memory, 0, size, T::blank());
         Rack {
             records: memory,
+            largest,
             count: 0,
         }
     }

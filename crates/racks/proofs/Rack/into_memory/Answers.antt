@@ -7,9 +7,9 @@ use Rattle.racks.proofs.Rack.into_memory.Goals as goal
 pub returns-clause-value : goal.returns-clause-value
 returns-clause-value g c =
     let s = c.args.self in
-    sym (joined_cut s.records.ghost_name s.records.now g.row.MOST s.count) ∙ memory_clean g.T.Blank.nothing (parts_of s) s.sound.clean
+    sym (joined_cut s.records.ghost_name s.records.now s.largest s.count) ∙ memory_clean g.T.Blank.nothing (parts_of s) s.sound.clean
 
 pub returns-clause-whole : goal.returns-clause-whole
 returns-clause-whole g c =
     let s = c.args.self in
-    sym (joined_cut s.records.ghost_name s.records.now g.row.MOST s.count)
+    sym (joined_cut s.records.ghost_name s.records.now s.largest s.count)
