@@ -1,5 +1,5 @@
 // The text of an answer line.
-ghost use Rattle.std.specs.Prelude.{◌≡◌, ◌+◌, ◌≤◌, ◌∷◌, ◌++◌, length, decimal};
+ghost use Rattle.std.specs.Prelude.{◌≡◌, ◌+◌, ◌≤◌, ◌∷◌, ◌++◌, IfSome, length, decimal};
 ghost use Rattle.arrayvec.specs.ArrayString.{array_string_len};
 ghost use Rattle.answer_lines.specs.AnswerLines.{result_of, figure_of, value_of, shown, answer_line};
 
@@ -39,12 +39,35 @@ fn fields_of(answer: Answer) -> (&'static str, Option<u64>, Option<u64>)
     }
 }
 
+// The text of a number of one digit, as most numbers of an answer line are: it is there, where another has to be made and copied.
+#[tactic(auto, using(std::proofs::lemmas::Fmt::decimal_digit))]
+fn one_digit(n: u64) -> Option<&'static str>
+    ensures { IfSome result (λ text. text.now ≡ decimal n) }
+{
+    match n {
+        0 => Some("0"),
+        1 => Some("1"),
+        2 => Some("2"),
+        3 => Some("3"),
+        4 => Some("4"),
+        5 => Some("5"),
+        6 => Some("6"),
+        7 => Some("7"),
+        8 => Some("8"),
+        9 => Some("9"),
+        _ => None,
+    }
+}
+
 fn push_number(text: &mut Text, n: u64)
     requires { array_string_len text.old + length (decimal n) ≤ 48 }
     ensures bytes { text.new.bytes ≡ text.old.bytes ++ decimal n }
     ensures len { array_string_len text.new ≡ array_string_len text.old + length (decimal n) }
 {
-    text.push_str(itoa::Buffer::new().format(n));
+    match one_digit(n) {
+        Some(digit) => text.push_str(digit),
+        None => text.push_str(itoa::Buffer::new().format(n)),
+    }
 }
 
 // A comma and a number, or a comma and a dash.
@@ -53,10 +76,12 @@ fn push_optional(text: &mut Text, number: Option<u64>)
     ensures bytes { text.new.bytes ≡ text.old.bytes ++ 44 ∷ shown number }
     ensures len { array_string_len text.new ≡ array_string_len text.old + length (44 ∷ shown number) }
 {
-    text.push_str(",");
     match number {
-        None => text.push_str("-"),
-        Some(n) => push_number(text, n),
+        None => text.push_str(",-"),
+        Some(n) => {
+            text.push_str(",");
+            push_number(text, n);
+        }
     }
 }
 

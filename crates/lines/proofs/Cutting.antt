@@ -1,9 +1,11 @@
 -- Lines and fields by their cuts. Assumes nothing.
-use Rattle.std.proofs.Common.{◌≡◌, ℕ, zero, suc, ◌+◌, ◌<◌, ◌≤◌, Bool, true, false, cond, eqb, ltb, not, List, [], ◌∷◌, length, length-drop, get_or, take, drop, Some, None, Option, sym, refl, ap, arith}
+use Rattle.std.proofs.Common.{◌≡◌, ℕ, zero, suc, ◌+◌, ◌<◌, ◌≤◌, Bool, true, false, cond, eqb, ltb, not, List, [], ◌∷◌, length, length-drop, get_or, take, drop, zero-add, Some, None, Option, sym, refl, ap, ◌∙◌, arith}
 use Rattle.std.specs.List.{onto_first, slice_split, position, position_or_len, before_first, after_first}
 use Rattle.std.proofs.lemmas.Bool.{cond_both, ltb-false}
 use Rattle.std.proofs.lemmas.Option.{cond_some, none-some}
 use Rattle.std.specs.Option.{unwrap_or, option_map}
+use Rattle.std.proofs.lemmas.List.Splits.{length-slice_split}
+use Rattle.std.specs.List.{count_by}
 use native.Mathlib.Numerals.{unary_clauses}
 use denote.Ref.{Bor}
 use Rattle.lines.specs.Texts.{lines_of, fields_of, field_at, is_line_end, is_comma}
@@ -48,7 +50,54 @@ pub fields_some : (line : List ℕ) → false ≡ eqb (length line) 0 → fields
 fields_some [] h = cc
 fields_some (b ∷ bs) h = refl
 
+-- a line with bytes has one field more than commas
+pub fields_counted : (line : List ℕ) → false ≡ eqb (length line) 0 → length (fields_of line) ≡ count_by is_comma line + 1
+fields_counted line h = ap length (fields_some line h) ∙ length-slice_split is_comma line
+
 pub field_parted : (line : List ℕ) (k : ℕ) → get_or (slice_split is_comma line) k [] ≡ field_at line k
 field_parted [] zero = refl
 field_parted [] (suc k) = refl
 field_parted (b ∷ bs) k = refl
+
+-- ---- the fields of a line, cut by cut
+
+-- the first part is what stands before the first comma
+parted_first : (bs : List ℕ) → get_or (slice_split is_comma bs) 0 [] ≡ before_first is_comma bs
+parted_first [] = refl
+parted_first (b ∷ bs) = by (is_comma b) (position_or_len is_comma bs) (slice_split is_comma bs) (parted_first bs)
+  where
+    by : (t : Bool) (n : ℕ) (fs : List (List ℕ)) → get_or fs 0 [] ≡ take n bs → get_or (cond t ([] ∷ fs) (onto_first b fs)) 0 [] ≡ take (cond (not t) (1 + n) 0) (b ∷ bs)
+    by true n fs h = refl
+    by false n [] h = let e : 1 + n ≡ suc n = omega arith in rw e (ap (λ l. b ∷ l) h)
+    by false n (f ∷ fs) h = let e : 1 + n ≡ suc n = omega arith in rw e (ap (λ l. b ∷ l) h)
+
+onto_past : (b : ℕ) (fs : List (List ℕ)) (k : ℕ) → get_or (onto_first b fs) (suc k) [] ≡ get_or fs (suc k) []
+onto_past b [] k = refl
+onto_past b (f ∷ fs) k = refl
+
+-- and the others are the parts of what stands after it
+parted_past : (bs : List ℕ) (k : ℕ) → get_or (slice_split is_comma (after_first is_comma bs)) k [] ≡ get_or (slice_split is_comma bs) (suc k) []
+parted_past [] zero = refl
+parted_past [] (suc k) = refl
+parted_past (b ∷ bs) k = by (is_comma b) (position_or_len is_comma bs) (parted_past bs k)
+  where
+    by : (t : Bool) (n : ℕ) → get_or (slice_split is_comma (drop (n + 1) bs)) k [] ≡ get_or (slice_split is_comma bs) (suc k) [] → get_or (slice_split is_comma (drop (cond (not t) (1 + n) 0 + 1) (b ∷ bs))) k [] ≡ get_or (cond t ([] ∷ slice_split is_comma bs) (onto_first b (slice_split is_comma bs))) (suc k) []
+    by true n h = refl
+    by false n h = let e : 1 + n + 1 ≡ suc (n + 1) = omega arith in rw e (h ∙ sym (onto_past b (slice_split is_comma bs) k))
+
+-- after i cuts, what is left has the other fields
+abbrev pub Passed : List ℕ → ℕ → List ℕ → Type 0
+Passed line i rest = (k : ℕ) → get_or (slice_split is_comma rest) k [] ≡ field_at line (i + k)
+
+pub passed_none : (line : List ℕ) → Passed line 0 line
+passed_none line k = field_parted line k ∙ ap (field_at line) (sym (zero-add k))
+
+pub passed_more : (line : List ℕ) (i : ℕ) (rest rest' : List ℕ) → rest' ≡ after_first is_comma rest → Passed line i rest → Passed line (i + 1) rest'
+passed_more line i rest rest' e h k =
+    let same : i + suc k ≡ (i + 1) + k = omega arith in
+    ap (λ r. get_or (slice_split is_comma r) k []) e ∙ parted_past rest k ∙ h (suc k) ∙ ap (field_at line) same
+
+pub passed_all : (line : List ℕ) (i : ℕ) (rest : List ℕ) → Passed line i rest → before_first is_comma rest ≡ field_at line i
+passed_all line i rest h =
+    let same : i + 0 ≡ i = omega arith in
+    sym (parted_first rest) ∙ h 0 ∙ ap (field_at line) same

@@ -13,11 +13,14 @@ line_end = 10
 abbrev pub comma : ℕ
 comma = 44
 
+abbrev pub is_byte : ℕ → ℕ → Bool
+is_byte wanted b = b == wanted
+
 abbrev pub is_line_end : ℕ → Bool
-is_line_end b = b == line_end
+is_line_end = is_byte line_end
 
 abbrev pub is_comma : ℕ → Bool
-is_comma b = b == comma
+is_comma = is_byte comma
 
 -- the lines of a text: the last may lack its end
 abbrev pub lines_of : List ℕ → List (List ℕ)

@@ -1,6 +1,7 @@
 // Sheets as lines, lines as fields, and fields as tokens that borrow the sheet's bytes.
 #![tactic(auto)]
 
+mod cuts;
 mod line;
 mod lines;
 mod tokens;

@@ -1,31 +1,20 @@
 // A sheet, line by line.
 ghost use Rattle.std.specs.Prelude.{◌≡◌, ◌+◌, ◌≤◌, [], length, take};
-ghost use Rattle.std.specs.List.{before_first, after_first};
 ghost use Rattle.std.specs.Iterator.{at_most};
-ghost use Rattle.lines.specs.Texts.{lines_of, sheet_limit, is_line_end};
+ghost use Rattle.lines.specs.Texts.{lines_of, sheet_limit};
 
+use crate::cuts::cut_at;
 use crate::line::Line;
 
 // How many bytes of a sheet are read.
 pub const SHEET_LIMIT: usize = 16_384;
 
 // The lines of a sheet that are left, and how many were read.
-#[derive(Drop)]
+#[derive(Clone, Copy)]
 pub struct Lines<'s> {
     pub(crate) number: u16,
     pub(crate) rest: &'s [u8],
     ghost within: { number + length rest.now ≤ 16384 },
-}
-
-// The bytes before the first line end, and those after it.
-fn cut_line(bytes: &[u8]) -> (&[u8], &[u8])
-    ensures front { result.0.now ≡ before_first is_line_end bytes.now }
-    ensures back { result.1.now ≡ after_first is_line_end bytes.now }
-{
-    match bytes.iter().position(|b| *b == b'\n') {
-        Some(i) => (&bytes[..i], &bytes[i + 1..]),
-        None => (bytes, &[]),
-    }
 }
 
 impl<'s> Lines<'s> {
@@ -40,6 +29,13 @@ impl<'s> Lines<'s> {
             number: 0,
             rest: &sheet[..end],
         }
+    }
+
+    // How many lines were read.
+    pub fn number(&self) -> u16
+        ensures { result ≡ self.now.number }
+    {
+        self.number
     }
 
     // Ends the sheet: no line is left.
@@ -65,7 +61,7 @@ impl<'s> Iterator for Lines<'s> {
         if self.rest.is_empty() {
             return None;
         }
-        let (text, rest) = cut_line(self.rest);
+        let (text, rest) = cut_at(self.rest, b'\n');
         let number = self.number + 1;
         *self = Lines { number, rest };
         Some(Line { text, number })

@@ -3,6 +3,8 @@
 //     ringsheet < week.sheet
 #![tactic(auto)]
 
+ghost use Rattle.std.specs.Prelude.{◌≤◌, length, IfOk};
+
 use byte_posts::BytePost;
 use copies::CopyRecord;
 use lines::SHEET_LIMIT;
@@ -17,10 +19,21 @@ const SHELF_COPIES: usize = 1_024;
 
 const POST_BYTES: usize = 5_632;
 
-fn read_sheet(rt: &HostRuntime) -> io::Result<Vec<u8>> {
-    let mut sheet = Vec::new(rt.alloc());
-    rt.stdin().take(SHEET_LIMIT as u64).read_to_end(&mut sheet)?;
-    Ok(sheet)
+// Reads standard input as far as the buffer goes, and tells how much there was. Each read has room for all that is left: where one read
+// takes one message, what `read_to_end` offers at first would cut it.
+fn read_sheet(rt: &HostRuntime, buffer: &mut [u8]) -> io::Result<usize>
+    ensures { IfOk result (λ n. n ≤ length buffer.old) }
+{
+    let mut input = rt.stdin();
+    let mut read = 0;
+    while read < buffer.len() {
+        let more = input.read(&mut buffer[read..])?;
+        if more == 0 {
+            break;
+        }
+        read += more;
+    }
+    Ok(read)
 }
 
 // Answers a sheet with a rack shelf and a byte post, in memory of their own.
@@ -33,8 +46,9 @@ fn answer(heap: Global, sheet: &[u8]) -> Result<Vec<u8>, AllocError> {
 }
 
 fn main(rt: HostRuntime) -> anyhow::Result<()> {
-    let sheet = read_sheet(&rt)?;
-    let text = answer(rt.alloc(), &sheet)?;
+    let mut sheet = vec![in rt.alloc(); 0u8; SHEET_LIMIT]?;
+    let read = read_sheet(&rt, sheet.as_mut_slice())?;
+    let text = answer(rt.alloc(), &sheet.as_slice()[..read])?;
     rt.stdout().write_all(&text)?;
     Ok(())
 }

@@ -20,7 +20,7 @@ struct Refusal {
 }
 
 // What became of a sheet that was opened.
-#[derive(Drop)]
+#[derive(Clone, Copy)]
 pub enum Opening<'s> {
     // a ring of these settings can take these orders
     Ready {

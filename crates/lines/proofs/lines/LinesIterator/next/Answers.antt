@@ -5,8 +5,8 @@ use Rattle.lines.proofs.lines.LinesIterator.next.Goals as goal
 
 pub returns-clause-steps : goal.returns-clause-steps
 returns-clause-steps c = (
-  lines_cut_some c.args.self.now.rest.now c.if-is_empty.ensures ∙ sym (λ j. c.cut_line.ensures.front j ∷ lines_of (c.cut_line.ensures.back j)),
+  lines_cut_some c.args.self.now.rest.now c.if-is_empty.ensures ∙ sym (λ j. c.cut_at.ensures.front j ∷ lines_of (c.cut_at.ensures.back j)),
   refl,
   refl,
-  omega (arith, after_shorter c.args.self.now.rest.now c.if-is_empty.ensures, ap length c.cut_line.ensures.back),
+  omega (arith, after_shorter c.args.self.now.rest.now c.if-is_empty.ensures, ap length c.cut_at.ensures.back),
 )
